@@ -1,0 +1,11 @@
+pub mod Numbers
+pub mod Graph
+pub mod Reach
+pub mod Step
+pub mod Words
+pub mod Advance
+pub mod Examples
+pub mod Sound
+pub mod Laws
+pub mod Rests
+pub mod Runs

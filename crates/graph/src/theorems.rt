@@ -1,0 +1,42 @@
+// Theorems on the definitions of specs/: each is the contract of a function, so that the check asks for its proof.
+ghost use Rattle.graph.specs.Examples.{Worked};
+
+/// The worked examples, computed from the definitions of specs/.
+pub fn worked_examples_stand() -> u8
+    ensures { λ _. ⌜ Worked ⌝ }
+{
+    0
+}
+
+ghost use Rattle.graph.specs.Reach.{Reach-agrees};
+
+/// What is computed as reachable is what the definition calls reachable.
+pub fn reachability_stands() -> u8
+    ensures { λ _. ⌜ Reach-agrees ⌝ }
+{
+    0
+}
+
+ghost use Rattle.graph.specs.Sound.{Stays-sound};
+
+/// A new heap is sound, and every call keeps it so.
+pub fn soundness_stands() -> u8
+    ensures { λ _. ⌜ Stays-sound ⌝ }
+{
+    0
+}
+
+ghost use Rattle.graph.specs.Laws.{Runs-agree, Full-collects, Numbers-encoded, References-apart, References-read, Headers-read, Words-tell};
+
+/// Laws of runs, and of the words that values, references and headers have.
+pub fn laws_stand() -> u8
+    ensures runs { λ _. ⌜ Runs-agree ⌝ }
+    ensures full { λ _. ⌜ Full-collects ⌝ }
+    ensures numbers { λ _. ⌜ Numbers-encoded ⌝ }
+    ensures apart { λ _. ⌜ References-apart ⌝ }
+    ensures references { λ _. ⌜ References-read ⌝ }
+    ensures headers { λ _. ⌜ Headers-read ⌝ }
+    ensures words { λ _. ⌜ Words-tell ⌝ }
+{
+    0
+}
