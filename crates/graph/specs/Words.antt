@@ -55,10 +55,10 @@ reference W g standing q = placeOf W g standing q * 4 + cond (isRecord (objectAt
 
 -- Values and objects as words. `ref` has the reference to each position.
 
--- n×4+1, modulo 2^32; negsuc n is −(n+1)
+-- n×4+1, modulo 2^32, of any number; negsuc n is −(n+1)
 abbrev pub numberWord : ℤ → ℕ
 numberWord (pos n) = (n * 4 + 1) % 2 ^ 32
-numberWord (negsuc n) = 2 ^ 32 + 1 - (n + 1) * 4
+numberWord (negsuc n) = (2 ^ 32 + 1 - (n + 1) * 4 % 2 ^ 32) % 2 ^ 32
 
 abbrev pub header : Bool → ℕ → ℕ → ℕ
 header mark kind words = 1 + 2 * cond mark 1 0 + 4 * kind + 16 * words
