@@ -9,3 +9,4 @@ pub mod Sound
 pub mod Laws
 pub mod Rests
 pub mod Runs
+pub mod Sliding

@@ -6,6 +6,7 @@ mod theorems;
 
 pub use theorems::laws_stand;
 pub use theorems::reachability_stands;
+pub use theorems::sliding_stands;
 pub use theorems::soundness_stands;
 pub use theorems::worked_examples_stand;
 

@@ -40,3 +40,14 @@ pub fn laws_stand() -> u8
 {
     0
 }
+
+ghost use Rattle.graph.specs.Sliding.{Kept-slide, Reachable-slide};
+
+/// Where kept objects slide to, by the places of before: a record to the sum of the sizes of the kept records left of it, a class to W less
+/// the sizes of the kept classes right of it; and the order stays. A collection keeps exactly the reachable objects.
+pub fn sliding_stands() -> u8
+    ensures any { λ _. ⌜ Kept-slide ⌝ }
+    ensures reachable { λ _. ⌜ Reachable-slide ⌝ }
+{
+    0
+}
