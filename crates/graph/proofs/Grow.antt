@@ -11,7 +11,7 @@ use Rattle.std.proofs.shelf.Tests.{false≢true, cases-bool, cond-true, cond-fa
 use Rattle.std.proofs.shelf.Lists.{append-nil, append-assoc, length-map, getD-append-left, getD-push, length-push, map-set, set-at, nil-from-length, replicate-append-replicate}
 use Rattle.graph.specs.Graph.{Value, empty, number, object, Cell, raw, value, Object, aRecord, aLayout, aMap, Graph, held, objectAt, make, size, isRecord}
 use Rattle.graph.specs.Reach.{Names, its-layout, its-field, its-map, its-name, its-parent, total, chosenSize, wordsOf}
-use Rattle.graph.specs.Words.{upward, downward, recordStands, classStands, recordSize, classSize, placeOf, between, lowEnd, highEnd, reference, header, headerKind, valueWord, fieldWord, bodyWords, objectWords, wordsAt, recordWords, classWords, image, handleWords}
+use Rattle.graph.specs.Words.{upward, downward, recordStands, classStands, recordSize, classSize, placeOf, between, lowEnd, highEnd, reference, header, headerKind, valueWord, fieldWord, bodyWords, objectWords, wordsAt, recordWords, classWords, image, handleWords, put}
 use Rattle.graph.proofs.Piles.{upward-same, downward-same, length-upward, length-downward, total-le}
 use Rattle.graph.proofs.Frame.{length-objectWords, block-on, block-off, length-recordWords, length-classWords, total-sides}
 
@@ -82,10 +82,6 @@ module _ (W : ℕ) (g g′ : Graph) (s s′ : List Bool) (n : ℕ) (objects : (j
         ap₂ (λ (b : Bool) (ws : List ℕ). cond b ws []) (ap₂ (λ (b : Bool) (o : Object). b && not (isRecord o)) (standing j l) (objects j l)) (below-words j l)
 
 -- Words written one after another.
-
-abbrev pub put : List ℕ → ℕ → List ℕ → List ℕ
-put xs p [] = xs
-put xs p (w ∷ ws) = put (set xs p w) (suc p) ws
 
 pub mid-put : (ws a b c : List ℕ) (p : ℕ) → length a ≡ p → length b ≡ length ws → put (a ++ (b ++ c)) p ws ≡ a ++ (ws ++ c)
 mid-put [] a b c p e f = ap (λ (xs : List ℕ). a ++ (xs ++ c)) (nil-from-length b f)

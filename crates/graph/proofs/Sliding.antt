@@ -96,7 +96,6 @@ term false y true n h = refl
 term false y false n h = refl
 
 module _ (m : Meaning) (W : ℕ) (g : Graph) (stood kept : List Bool) (snd : Sound m W g stood) (long : length kept ≡ length (g .objects)) (stays : (q : ℕ) → getD kept q false ≡ true → getD stood q false ≡ true) where
-
   chosen-fewer : (j : ℕ) → chosenSize g kept j ≤ chosenSize g stood j
   chosen-fewer j =
       elim (cases-bool (getD kept j false)) [
@@ -122,7 +121,7 @@ module _ (m : Meaning) (W : ℕ) (g : Graph) (stood kept : List Bool) (snd : Sou
   right-terms q here b j =
       term (classStands g kept j) (ltb (placeOf W g stood q) (placeOf W g stood j)) (ltb j q) (size (objectAt g j))
       (λ e. let parts = and-parts (getD kept j false) (not (isRecord (objectAt g j))) e in
-        class-order W g stood (snd .fits) (snd .as-long) j q (stays q here) (not-true (isRecord (objectAt g j)) (parts .1)) b)
+      class-order W g stood (snd .fits) (snd .as-long) j q (stays q here) (not-true (isRecord (objectAt g j)) (parts .1)) b)
 
   record-slides : (q : ℕ) → getD kept q false ≡ true → isRecord (objectAt g q) ≡ true → placeOf W g kept q ≡ total (keptLeft W g stood kept q) (length (g .objects))
   record-slides q here b =

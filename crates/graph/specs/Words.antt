@@ -2,7 +2,7 @@
 use Prim.Native.Nat.{ℕ, _+_, _-_, _*_, _%_, _^_, zero, suc}
 use mathlib.Core.Bool.{Bool, true, false, cond, not, _&&_}
 use mathlib.Core.List.{List, [], _∷_, _++_, map}
-use lib.ListN.{length, getD, replicate}
+use lib.ListN.{length, getD, set, replicate}
 use lib.IntN.{ℤ, pos, negsuc}
 use Rattle.graph.specs.Graph.{Value, empty, number, object, Cell, raw, value, Object, aRecord, aLayout, aMap, Graph, objectAt, size, isRecord}
 use Rattle.graph.specs.Reach.{total, wordsOf, reachable}
@@ -111,3 +111,8 @@ packed W g = image W g (reachable g) []
 
 abbrev pub packedHandles : ℕ → Graph → List ℕ
 packedHandles W g = handleWords W g (reachable g)
+
+-- the list xs with the words ws written one after another from place p
+abbrev pub put : List ℕ → ℕ → List ℕ → List ℕ
+put xs p [] = xs
+put xs p (w ∷ ws) = put (set xs p w) (suc p) ws

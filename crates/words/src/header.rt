@@ -67,12 +67,20 @@ pub fn is_unmarked(word: u32) -> bool
 pub fn marked(header: u32) -> u32
     ensures { λ r. ⌜ r ≡ header + cond (eqb (header / 2 % 2) 1) 0 2 ⌝ }
 {
-    if header / 2 % 2 == 1 { header } else { header + 2 }
+    if header / 2 % 2 == 1 {
+        header
+    } else {
+        header + 2
+    }
 }
 
 /// The header without its mark.
 pub fn unmarked(header: u32) -> u32
     ensures { λ r. ⌜ r ≡ header - cond (eqb (header / 2 % 2) 1) 2 0 ⌝ }
 {
-    if header / 2 % 2 == 1 { header - 2 } else { header }
+    if header / 2 % 2 == 1 {
+        header - 2
+    } else {
+        header
+    }
 }

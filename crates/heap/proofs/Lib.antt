@@ -1,0 +1,4 @@
+mod Judging
+mod Steps
+mod Readings
+mod Exits
