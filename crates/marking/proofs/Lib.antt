@@ -1,0 +1,9 @@
+pub mod Totals
+pub mod Steps
+pub mod Walks
+pub mod Whole
+pub mod Fades
+pub mod Places
+pub mod Edges
+pub mod Standing
+pub mod Bridge

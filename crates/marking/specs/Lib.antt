@@ -1,0 +1,5 @@
+pub mod Sides
+pub mod Plans
+pub mod Marks
+pub mod Unmarks
+pub mod Begins
