@@ -14,10 +14,10 @@ use Rattle.graph.specs.declared.Refusal.{Refusal}
 use Rattle.graph.specs.Graph.{Graph}
 use Rattle.graph.specs.Step.{row, Outcome}
 use Rattle.heap.specs.declared.Heap.{Heap}
-use Rattle.heap.specs.Effects.{View, Effect, none, handle-takes, place-takes, class-made, record-made, packs, effect, Alters}
+use Rattle.heap.specs.Effects.{View, Effect, none, handle-takes, place-takes, class-made, record-made, weighs, packs, effect, Alters}
 use Rattle.heap.specs.Views.{view, Stands, Done, Meets, outcomeOf}
 use Rattle.heap.specs.Checks.{Stopped}
-use Rattle.heap.proofs.Steps.{stopped-follows}
+use Rattle.heap.proofs.Acts.{stopped-follows}
 
 -- a refusal for which nothing was altered
 unaltered : (x : Effect) (v : View) (e : Refusal) → Alters x v (Err e) v
@@ -26,6 +26,7 @@ unaltered (handle-takes d w) v e = refl
 unaltered (place-takes p w) v e = refl
 unaltered (class-made d n ws) v e = λ ne. refl
 unaltered (record-made d n ws) v e = λ ne. refl
+unaltered weighs v e = (refl, refl, refl, refl)
 unaltered packs v e = refl
 
 module _ {M S X : Type 0} (words : M → List ℕ) (meaning : S → Meaning) (c : Call) (h : Heap M S) (f : X → ℤ) where

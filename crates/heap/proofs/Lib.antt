@@ -1,4 +1,5 @@
 mod Judging
-mod Steps
+mod Acts
 mod Readings
 mod Exits
+mod Objects

@@ -67,6 +67,8 @@ pub data Effect : Type 0 where
   -- a handle gets a new class, or a new record, of so many words
   class-made : ℕ → ℕ → List ℕ → Effect
   record-made : ℕ → ℕ → List ℕ → Effect
+  -- marks are set and cleared again
+  weighs : Effect
   -- the heap is packed
   packs : Effect
 
@@ -92,9 +94,9 @@ effect (Part d o k) v = handle-takes d (getD (v .words) (placeIn v o + partOffse
 effect (Figure h) v = none
 effect (Raws h) v = none
 effect Collect v = packs
-effect Fill v = none
+effect Fill v = weighs
 effect Stepped v = packs
-effect GivenUp v = none
+effect GivenUp v = weighs
 
 -- What is altered. A refused call alters nothing, but for 31, which has packed; a new object is put where there was room for it as it is said
 -- here, and where there was none the packed words are told by the still graph.
@@ -108,4 +110,5 @@ Alters (class-made d n ws) v (Ok x) v′ = n ≤ v .high - v .low → v .high �
 Alters (class-made d n ws) v (Err e) v′ = (e ≡ Full → ⊥) → v′ ≡ v
 Alters (record-made d n ws) v (Ok x) v′ = n ≤ v .high - v .low → v .high ≤ 16384 → v′ ≡ withRecord v d n ws
 Alters (record-made d n ws) v (Err e) v′ = (e ≡ Full → ⊥) → v′ ≡ v
+Alters weighs v out v′ = (v′ .handles ≡ v .handles) × (v′ .low ≡ v .low) × (v′ .high ≡ v .high) × (v′ .limit ≡ v .limit)
 Alters packs v out v′ = v′ .limit ≡ v .limit

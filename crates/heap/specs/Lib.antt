@@ -1,3 +1,4 @@
 pub mod Effects
 pub mod Views
 pub mod Checks
+pub mod Phases

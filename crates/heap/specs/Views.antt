@@ -5,6 +5,7 @@ use mathlib.Core.List.{List, [], _∷_}
 use Prim.Native.Nat.{ℕ, _+_, _-_, _*_, _≤_, min}
 use lib.IntN.{ℤ, pos}
 use lib.ListN.{length, drop}
+use Rattle.std.specs.Vec.{refused}
 use Rattle.std.specs.declared.result.Result.{Result}
 use Rattle.std.specs.declared.result.Result.the-variants.{Ok, Err}
 use Rattle.scheme.specs.Meaning.{Meaning}
@@ -91,5 +92,6 @@ pub record Rooms (m : Meaning) (need : ℕ) (before after : View) (r : Result (U
   pub room : (g : Graph) (s : List Bool) → Stands m before g s → Room m need before g s after r
   pub later : (g : Graph) (s : List Bool) → Stands m before g s → drop (before .limit) (after .words) ≡ drop (before .limit) (before .words)
   pub limit : after .limit ≡ before .limit
+  pub refusal : refused r (λ e. e ≡ Full)
   -- where there was room, nothing is done
   pub roomy : need ≤ before .high - before .low → after ≡ before

@@ -6,7 +6,7 @@ use Rattle.graph.proofs.Rests.{read-handle}
 use Rattle.heap.specs.Views.{view}
 use Rattle.heap.specs.Checks.{none}
 use Rattle.heap.proofs.Judging.{passed, all-pass, next, stop}
-use Rattle.heap.proofs.Steps.{stopped-follows, sets-done}
+use Rattle.heap.proofs.Acts.{stopped-follows, sets-done}
 use Rattle.heap.proofs.Heap.copy.Needs as need
 
 pub returns : need.returns

@@ -9,7 +9,7 @@ use Rattle.graph.specs.Step.{tells}
 use Rattle.graph.proofs.Laws.{words-tell}
 use Rattle.heap.specs.Views.{truth}
 use Rattle.heap.proofs.Judging.{passed, all-pass, next, stop}
-use Rattle.heap.proofs.Steps.{tells-done}
+use Rattle.heap.proofs.Acts.{tells-done}
 use Rattle.heap.proofs.Readings.{held-means}
 use Rattle.heap.proofs.Exits.{exits, ends}
 use Rattle.heap.proofs.Heap.same.Needs as need

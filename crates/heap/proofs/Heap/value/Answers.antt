@@ -18,7 +18,7 @@ use Rattle.graph.proofs.Laws.{words-tell}
 use Rattle.heap.specs.Views.{view, nothing}
 use Rattle.heap.specs.Checks.{Sifts, isKind}
 use Rattle.heap.proofs.Judging.{passed, all-pass, pass-first, next, stop, sifts-ok}
-use Rattle.heap.proofs.Steps.{sets-done, tells-done}
+use Rattle.heap.proofs.Acts.{sets-done, tells-done}
 use Rattle.heap.proofs.Readings.{held-means, number-read, part-read, record-figure, class-figure, raws-read}
 use Rattle.heap.proofs.Exits.{exits, ends}
 use Rattle.heap.proofs.Heap.value.Needs as need
