@@ -97,7 +97,7 @@ impl Pending {
     }
 
     // Marks what the handles name.
-    pub fn mark_handles<M: Memory>(&mut self, space: &mut Space<M>)
+    fn mark_handles<M: Memory>(&mut self, space: &mut Space<M>)
         ensures rooted { λ _. ⌜ Rooted (M·Memory .words (now (space .entry) .memory)) (now (space .entry) .handles) (now (self .entry)) (M·Memory .words (now (space .exit) .memory)) (now (space .exit) .handles) (now (self .exit)) ⌝ }
         ensures kept { λ _. ⌜ Kept (M·Memory .words (now (space .entry) .memory)) (now (space .entry) .handles) (M·Memory .words (now (space .exit) .memory)) (now (space .exit) .handles) ⌝ }
     {
@@ -110,7 +110,7 @@ impl Pending {
     }
 
     // Marks all that the marked objects lead to: each round over both sides goes on from the marks, and there is another while a place found no room.
-    pub fn settle<M: Memory, S: Scheme>(
+    fn settle<M: Memory, S: Scheme>(
         &mut self,
         space: &mut Space<M>,
         scheme: &S,
@@ -133,7 +133,7 @@ impl Pending {
     }
 }
 
-// Marks the reachable objects, and tells how many words they take.
+/// Marks the reachable objects, and tells how many words they take.
 pub fn begin<M: Memory, S: Scheme>(
     space: &mut Space<M>,
     scheme: &S,

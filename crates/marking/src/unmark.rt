@@ -31,7 +31,7 @@ fn unmark_side<T: Side, M: Memory>(space: &mut Space<M>, from: u32, end: u32)
     }
 }
 
-// Takes every mark off.
+/// Takes every mark off.
 pub fn give_up<M: Memory>(space: &mut Space<M>, limit: u32, low: u32, high: u32)
     ensures { λ _. ⌜ GivesUp limit low high (M·Memory .words (now (space .entry) .memory)) (now (space .entry) .handles) (M·Memory .words (now (space .exit) .memory)) (now (space .exit) .handles) ⌝ }
 {
