@@ -1,4 +1,4 @@
--- What `mark` ensures, in the words of the still graph.
+-- The reachable places are those of the reachable objects; the begin of a collection and its giving up, in the words of the graph.
 use mathlib.Core.Path.{_≡_, refl, sym, ap, ap₂, subst, _∙_}
 use mathlib.Core.Bool.{Bool, true, false, cond, not, _&&_, _||_}
 use mathlib.Core.List.{List, [], _∷_, _++_}
@@ -6,257 +6,297 @@ use mathlib.Core.Logic.{_⊎_, inl, inr}
 use Prim.Native.Nat.{ℕ, zero, suc, _+_, _-_, _*_, _/_, _%_, _<_, _≤_}
 use native.Mathlib.Omega.{arith}
 use native.Mathlib.Nat.{add-zero}
-use lib.Dec.{eqb}
-use lib.ListN.{length, getD, set, take, drop, replicate}
-use Rattle.std.proofs.shelf.Tests.{both-ways, and-parts, and-left, and-right, and-from, or-cases, or-left, or-right, or-from, eq-eqb, eqb-true, ne-eqb, cases-lt, cases-eq, cases-bool, cond-true, cond-false}
-use Rattle.std.proofs.shelf.Lists.{length-set, length-replicate, length-take, length-drop, getD-set-same, getD-set-other, getD-replicate, getD-past, getD-take, getD-drop, ext-getD}
-use Rattle.graph.specs.Graph.{Graph, objectAt, size}
-use Rattle.scheme.specs.Meaning.{Meaning, isRaw}
-use Rattle.graph.specs.Reach.{total, chosenSize, wordsOf, reachable, liveWords, Reachable}
-use Rattle.graph.specs.Words.{placeOf, reference, header, headerKind, objectWords, recordStands, classStands, recordWords, classWords, wordsAt, image, upward, downward, between, lowEnd, highEnd}
+use lib.Dec.{eqb, ltb, leb}
+use lib.ListN.{length, getD, take, drop, length-append, take-append-drop}
+use Rattle.std.proofs.shelf.Tests.{both-ways, false≢true, cases-bool, and-parts, and-from, and-left, and-right, or-left, or-right, or-cases, cond-true, cond-false, ne-eqb, eq-eqb, eqb-true, lt-ltb, le-ltb, le-leb, cases-lt, cases-eq}
+use Rattle.std.proofs.shelf.Lists.{getD-past, getD-map, length-map}
+use Rattle.scheme.specs.Meaning.{Meaning}
+use Rattle.graph.specs.Graph.{Value, empty, number, object, Cell, raw, value, Object, aRecord, aLayout, aMap, Graph, held, objectAt, size}
+use Rattle.graph.specs.Reach.{Names, its-layout, its-field, its-map, its-name, its-parent, Reachable, by-handle, by-object, reachable, total, chosenSize, wordsOf, liveWords}
+use Rattle.graph.specs.Words.{placeOf, reference, header, headerKind, valueWord, fieldWord, objectWords, image, handleWords, lowEnd, highEnd}
+use Rattle.graph.specs.Sound.{Sound}
 use Rattle.graph.specs.Rests.{Rests}
 use Rattle.graph.proofs.Reach.{length-reachable, reachable-sound, reachable-complete}
-use Rattle.graph.proofs.Piles.{upward-same, downward-same}
-use Rattle.graph.proofs.Frame.{length-image, read-word, write-mark, size-pos}
-use Rattle.marking.specs.Plans.{Plan, look, word, sizeAt, marked, Marked, live, total as sum}
-use Rattle.marking.specs.Marks.{Marks, Done, Sides}
-use Rattle.marking.specs.Unmarks.{Unmarks}
+use Rattle.graph.proofs.Sound.{sound-collects, stands-below}
+use Rattle.graph.proofs.Frame.{length-image, size-pos}
+use Rattle.graph.proofs.Grow.{total-same}
+use Rattle.graph.proofs.Laws.{references-read, headers-read}
+use Rattle.space.specs.Weave.{view, Kept}
+use Rattle.space.specs.Pass.{Plan, Planned, refers}
+use Rattle.space.specs.Layout.{Keeps, Begun, isObject, cellRefers, refersAt, turnOf, owner, plan}
+use Rattle.space.proofs.Owners.{one-turn, below-many, turn-bounds}
+use Rattle.space.proofs.Fields.{refers-to}
+use Rattle.space.proofs.Plans.{Body, Root, slot-of, head-of, slot-at, rank-at, word-at, handle-at, head-word, owner-place, ends, high-reference, kind-four}
+use Rattle.space.proofs.Finals.{rest-at}
+use Rattle.marking.specs.declared.Pending.{Pending}
+use Rattle.marking.specs.Marks.{Standing, Sides, Marked, marked, Reaches, by-handle as from-handle, by-object as from-object, live, Going, stage, nothing, Rooted, Settled, Done}
+use Rattle.marking.specs.Unmarks.{Fading, UnmarkedSide}
+use Rattle.marking.specs.Begins.{Begins-with, Begins, GivesUp}
 use Rattle.marking.proofs.Totals.{total-put, total-none}
-use Rattle.marking.specs.Begins.{Begun, Bridged, GivenUp}
-use Rattle.marking.proofs.Places.{stands, planOf, placed, placed-in, placed-out, in-list, ends, one-place}
-use Rattle.marking.proofs.Edges.{size-at}
-use Rattle.marking.proofs.Standing.{plan-sound, plan-sides, reach-stands, reach-out, reach-in}
-
-sum-same : (f h : ℕ → ℕ) → ((a : ℕ) → f a ≡ h a) → (n : ℕ) → sum f n ≡ sum h n
-sum-same f h e zero = refl
-sum-same f h e (suc n) = ap₂ _+_ (sum-same f h e n) (e n)
+use Rattle.marking.proofs.Rounds.{start}
+use Rattle.marking.proofs.Fades.{faded}
+use Rattle.marking.proofs.Images.{keeps-all, standing, sides, look, image-marked, marks-in, marked-image}
 
 both-same : (x y : Bool) → (x ≡ true → y ≡ true) → (y ≡ true → x ≡ true) → x ≡ y
 both-same true y f h = sym (f refl)
 both-same false true f h = h refl
 both-same false false f h = refl
 
--- the images of two lists of marks that say the same
-image-same : (W : ℕ) (g : Graph) (s m m′ : List Bool) → ((q : ℕ) → q < length (g .objects) → getD m′ q false ≡ getD m q false) → image W g s m′ ≡ image W g s m
-image-same W g s m m′ e =
-    let n = length (g .objects) in
-    ap₂ (λ (x y : List ℕ). x ++ (replicate (between W g s) 0 ++ y))
-    (upward-same (recordWords W g s m) (recordWords W g s m′) n (λ q l. ap (λ b. cond (recordStands g s q) (objectWords (reference W g s) b (objectAt g q)) []) (e q l)))
-    (downward-same (classWords W g s m) (classWords W g s m′) n (λ q l. ap (λ b. cond (classStands g s q) (objectWords (reference W g s) b (objectAt g q)) []) (e q l)))
-
--- the marks of the list, for the first k objects
-abbrev upto : List Bool → ℕ → ℕ → List Bool
-upto r n zero = replicate n false
-upto r n (suc k) = cond (getD r k false) (set (upto r n k) k true) (upto r n k)
-
-length-upto : (r : List Bool) (n k : ℕ) → length (upto r n k) ≡ n
-length-upto r n zero = length-replicate n false
-length-upto r n (suc k) = go (getD r k false) (length-upto r n k)
+-- what an object names stands in one of its reference slots
+abbrev names-refer : (o : Object) (t : ℕ) → Names o t → (i : ℕ) × (refersAt o i ≡ true) × (i < size o)
+names-refer (aRecord l cells) t its-layout = (1, refl, omega arith)
+names-refer (aRecord l cells) t (its-field i e) = (suc (suc i), ap cellRefers e, (let b : i < length cells = elim (cases-lt i (length cells)) [ inl x ↦ x | inr x ↦ absurd (none (sym (getD-past cells i (raw 0) x) ∙ e)) ] in omega arith))
   where
-    go : (b : Bool) → length (upto r n k) ≡ n → length (cond b (set (upto r n k) k true) (upto r n k)) ≡ n
-    go true i = length-set (upto r n k) k true ∙ i
-    go false i = i
+    none : raw 0 ≡ value (object t) → ⊥
+    none z = false≢true (ap cellRefers z)
+names-refer (aLayout c n) t its-map = (2, refl, omega arith)
+names-refer (aMap r n p) t its-name = (2, refl, omega arith)
+names-refer (aMap r n p) t its-parent = (3, refl, omega arith)
 
-upto-past : (r : List Bool) (n k q : ℕ) → k ≤ q → q < n → getD (upto r n k) q false ≡ false
-upto-past r n zero q l h = getD-replicate n q false false h
-upto-past r n (suc k) q l h = go (getD r k false) (upto-past r n k q (omega arith) h)
+names-word : (o : Object) (t : ℕ) (n : Names o t) (ref : ℕ → ℕ) (mark : Bool) → getD (objectWords ref mark o) (names-refer o t n .0) 0 ≡ ref t
+names-word (aRecord l cells) t its-layout ref mark = refl
+names-word (aRecord l cells) t (its-field i e) ref mark =
+    let b : i < length cells = elim (cases-lt i (length cells)) [ inl x ↦ x | inr x ↦ absurd (none (sym (getD-past cells i (raw 0) x) ∙ e)) ] in
+    getD-map (fieldWord ref) cells i (raw 0) 0 b ∙ ap (fieldWord ref) e
   where
-    go : (b : Bool) → getD (upto r n k) q false ≡ false → getD (cond b (set (upto r n k) k true) (upto r n k)) q false ≡ false
-    go true i = getD-set-other (upto r n k) k q true false (λ e. omega arith) ∙ i
-    go false i = i
+    none : raw 0 ≡ value (object t) → ⊥
+    none z = false≢true (ap cellRefers z)
+names-word (aLayout c n) t its-map ref mark = refl
+names-word (aMap r n p) t its-name ref mark = refl
+names-word (aMap r n p) t its-parent ref mark = refl
 
-upto-below : (r : List Bool) (n k q : ℕ) → q < k → q < n → getD (upto r n k) q false ≡ getD r q false
-upto-below r n zero q l h = absurd (omega arith)
-upto-below r n (suc k) q l h = go (getD r k false) refl (λ lt. upto-below r n k q lt h)
-  where
-    go : (b : Bool) → getD r k false ≡ b → (q < k → getD (upto r n k) q false ≡ getD r q false) → getD (cond b (set (upto r n k) k true) (upto r n k)) q false ≡ getD r q false
-    go true e i =
-        elim (cases-eq q k) [
-          | inl z ↦ subst (λ x. getD (set (upto r n k) k true) x false ≡ getD r x false) (sym z)
-              (getD-set-same (upto r n k) k true false (omega (arith, length-upto r n k)) ∙ sym e)
-          | inr ne ↦ getD-set-other (upto r n k) k q true false ne ∙ i (omega arith)
-        ]
-    go false e i =
-        elim (cases-eq q k) [
-          | inl z ↦ subst (λ x. getD (upto r n k) x false ≡ getD r x false) (sym z) (upto-past r n k k (omega arith) (omega arith) ∙ sym e)
-          | inr ne ↦ i (omega arith)
-        ]
-
-module _ (m : Meaning) (W : ℕ) (g : Graph) (s : List Bool) (ws hs : List ℕ) (small : W ≤ 16384) (rests : Rests m W g s ws hs) where
+module _ (m : Meaning) (W : ℕ) (g : Graph) (s : List Bool) (snd : Sound m W g s) (lim : W ≤ 16384) (rest : List ℕ) where
   abbrev P : Plan
-  P = planOf m W g s ws hs
+  P = plan W g s s rest
 
-  abbrev lives : ℕ → Bool
-  lives q = getD (reachable g) q false
+  abbrev kp : Keeps m W g s s
+  kp = keeps-all m W g s snd lim
 
-  abbrev hit : ℕ → ℕ → Bool
-  hit k a = placed lives (placeOf W g s) k a
+  one-place : (p q : ℕ) → getD s p false ≡ true → getD s q false ≡ true → placeOf W g s p ≡ placeOf W g s q → p ≡ q
+  one-place p q x y e =
+      let z : suc p ≡ suc q = sym (owner-place m W g s s kp rest p x) ∙ ap (owner W g s (length (g .objects))) e ∙ owner-place m W g s s kp rest q y in
+      omega (arith, z)
 
-  lives-stand : (q : ℕ) → lives q ≡ true → stands s q ≡ true
-  lives-stand q e = reach-stands m W g s ws hs small rests q (reachable-sound g q e)
+  rank-place : (q : ℕ) → getD s q false ≡ true → P .rank (placeOf W g s q) ≡ turnOf W g s q
+  rank-place q e = ap (P .rank) (sym (add-zero (placeOf W g s q))) ∙ rank-at m W g s s kp rest q 0 e (size-pos (objectAt g q))
 
-  hit-at : (k : ℕ) → lives k ≡ true → hit (suc k) (placeOf W g s k) ≡ true
-  hit-at k e = or-left _ _ (and-from _ _ e (eq-eqb (placeOf W g s k) (placeOf W g s k) refl))
+  -- a reachable place
+  pub record Reached (a : ℕ) : Type 0 where
+    pub by : ℕ
+    pub stands : getD s by false ≡ true
+    pub is : a ≡ placeOf W g s by
+    pub way : Reachable g by
 
-  hit-else : (k a : ℕ) → (a ≡ placeOf W g s k → ⊥) → hit (suc k) a ≡ hit k a
-  hit-else k a ne = ap (λ b. b || hit k a) (and-right (lives k) (eqb a (placeOf W g s k)) (ne-eqb a (placeOf W g s k) ne))
+  to-place : (t w : ℕ) → w ≡ reference W g s t → w / 4 ≡ placeOf W g s t
+  to-place t w e = ap (λ (x : ℕ). x / 4) e ∙ references-read W g s t .place
 
-  hit-skip : (k a : ℕ) → lives k ≡ false → hit (suc k) a ≡ hit k a
-  hit-skip k a e = ap (λ b. b || hit k a) (and-left (lives k) (eqb a (placeOf W g s k)) e)
-
-  hit-new : (k : ℕ) → lives k ≡ true → hit k (placeOf W g s k) ≡ false
-  hit-new k e =
-      elim (cases-bool (hit k (placeOf W g s k))) [
-        | inl t ↦
-            let r = placed-out lives (placeOf W g s) k (placeOf W g s k) t in
-            absurd (let same = one-place m W g s ws hs rests k (r .by) (lives-stand k e) (lives-stand (r .by) (r .chosen)) (r .is) in let l = r .below in omega arith)
-        | inr f ↦ f
+  pub reach-out : (a : ℕ) → Reaches P a → Reached a
+  reach-out a (from-handle x sl rk e) =
+      elim (slot-of m W g s s kp rest x sl) [
+        | inl b ↦
+            let st = b .kept in
+            let r = ap (P .rank) (b .is) ∙ rank-at m W g s s kp rest (b .object) (b .word) st (b .below) in
+            absurd (omega (arith, r, rk, turn-bounds W g s (snd .fits) (snd .as-long) (b .object) st .0))
+        | inr b ↦ root x (b .handle) (b .is) (b .below) (held g (b .handle)) refl (b .refer) e
       ]
-
-  -- the image with the first k objects' marks, word by word
-  words-upto : (k : ℕ) → k ≤ length (g .objects) → (a : ℕ) → getD (image W g s (upto (reachable g) (length (g .objects)) k)) a 0 ≡ getD (image W g s []) a 0 + cond (hit k a) 2 0
-  words-upto zero l a = ap (λ xs. getD xs a 0) (image-same W g s [] (replicate (length (g .objects)) false) (λ q h. getD-replicate (length (g .objects)) q false false h)) ∙ sym (add-zero _)
-  words-upto (suc k) l a = go (lives k) refl (words-upto k (omega arith) a)
     where
-      n : ℕ
-      n = length (g .objects)
-
-      go : (b : Bool) → lives k ≡ b → getD (image W g s (upto (reachable g) (length (g .objects)) k)) a 0 ≡ getD (image W g s []) a 0 + cond (hit k a) 2 0 →
-          getD (image W g s (cond b (set (upto (reachable g) (length (g .objects)) k) k true) (upto (reachable g) (length (g .objects)) k))) a 0 ≡ getD (image W g s []) a 0 + cond (hit (suc k) a) 2 0
-      go true e i =
-          let fits = rests .sound .fits in
-          let marks = upto (reachable g) (length (g .objects)) k in
-          let up = lives-stand k e in
-          let lk : k < length (g .objects) = omega arith in
-          let h = header true (headerKind (objectAt g k)) (size (objectAt g k)) in
-          let step = write-mark W g s marks fits k lk up h (omega (arith, length-upto (reachable g) (length (g .objects)) k)) refl in
-          ap (λ xs. getD xs a 0) (sym step)
-          ∙ elim (cases-eq a (placeOf W g s k)) [
-            | inl z ↦
-                let p = placeOf W g s k in
-                let first : getD (image W g s []) p 0 ≡ header false (headerKind (objectAt g k)) (size (objectAt g k)) =
-                ap (λ x. getD (image W g s []) x 0) (sym (add-zero p)) ∙ read-word W g s [] fits k lk up 0 (size-pos (objectAt g k)) in
-                let here : getD (set (image W g s marks) p h) p 0 ≡ h =
-                getD-set-same (image W g s marks) p h 0 (omega (arith, length-image W g s marks fits, ends m W g s ws hs rests k up, size-pos (objectAt g k))) in
-                subst (λ x. getD (set (image W g s marks) p h) x 0 ≡ getD (image W g s []) x 0 + cond (hit (suc k) x) 2 0) (sym z)
-                (subst (λ b. getD (set (image W g s marks) p h) p 0 ≡ getD (image W g s []) p 0 + cond b 2 0) (sym (hit-at k e)) (omega (arith, first, here)))
-            | inr ne ↦
-                getD-set-other (image W g s marks) (placeOf W g s k) a h 0 ne ∙ i ∙ ap (λ b. getD (image W g s []) a 0 + cond b 2 0) (sym (hit-else k a ne))
-          ]
-      go false e i = i ∙ ap (λ b. getD (image W g s []) a 0 + cond b 2 0) (sym (hit-skip k a e))
-
-  words-marked : (a : ℕ) → getD (image W g s (reachable g)) a 0 ≡ getD (image W g s []) a 0 + cond (hit (length (g .objects)) a) 2 0
-  words-marked a =
-      let n = length (g .objects) in
-      ap (λ xs. getD xs a 0) (image-same W g s (upto (reachable g) n n) (reachable g) (λ q l. sym (upto-below (reachable g) n n q l l)))
-      ∙ words-upto n (omega arith) a
-
-  -- the sizes
-  sizes-upto : (k : ℕ) → k ≤ length (g .objects) → sum (λ a. cond (hit k a) (sizeAt P a) 0) W ≡ total (chosenSize g (reachable g)) k
-  sizes-upto zero l = total-none (λ a. 0) (λ a. refl) W
-  sizes-upto (suc k) l = go (lives k) refl (sizes-upto k (omega arith))
+      root : (x h : ℕ) → x ≡ 16384 + h → h < 32 → (v : Value) → held g h ≡ v → isObject v ≡ true → a ≡ P .words x / 4 → Reached a
+      root x h is l empty f z e = absurd (false≢true z)
+      root x h is l (number n) f z e = absurd (false≢true z)
+      root x h is l (object t) f z e =
+          record {
+            by = t;
+            stands = snd .held-stands h t f;
+            is = e ∙ to-place t _ (ap (P .words) is ∙ handle-at m W g s s kp rest h l ∙ ap (valueWord (reference W g s)) f);
+            way = by-handle h f;
+          }
+  reach-out a (from-object p x r sl rk e) =
+      let from = reach-out p r in
+      elim (slot-of m W g s s kp rest x sl) [
+        | inl b ↦
+            let st = b .kept in
+            let rx = ap (P .rank) (b .is) ∙ rank-at m W g s s kp rest (b .object) (b .word) st (b .below) in
+            let rp = ap (P .rank) (from .is) ∙ rank-place (from .by) (from .stands) in
+            let same : b .object ≡ from .by = one-turn W g s (snd .fits) (snd .as-long) (b .object) (from .by) st (from .stands) (sym rx ∙ rk ∙ rp) in
+            let t = refers-to (objectAt g (b .object)) (b .word) (b .refer) (b .below) in
+            let names : Names (objectAt g (from .by)) (t .0) = subst (λ (q : ℕ). Names (objectAt g q) (t .0)) same (t .1) in
+            record {
+              by = t .0;
+              stands = snd .named-stands (from .by) (t .0) (from .stands) names;
+              is = e ∙ to-place (t .0) _ (ap (P .words) (b .is) ∙ word-at m W g s s kp rest (b .object) (b .word) st (b .below) ∙ t .2 (reference W g s) (getD s (b .object) false));
+              way = by-object (from .by) (from .way) names;
+            }
+        | inr b ↦
+            let rp = ap (P .rank) (from .is) ∙ rank-place (from .by) (from .stands) in
+            let b0 = turn-bounds W g s (snd .fits) (snd .as-long) (from .by) (from .stands) .0 in
+            let low : x < 16384 → ⊥ = λ l. omega (arith, b .is, l) in
+            absurd (omega (arith, rk, rp, b0, root-rank x (b .handle) (b .is) (b .below)))
+      ]
     where
-      go : (b : Bool) → lives k ≡ b → sum (λ a. cond (hit k a) (sizeAt P a) 0) W ≡ total (chosenSize g (reachable g)) k →
-          sum (λ a. cond (hit (suc k) a) (sizeAt P a) 0) W ≡ total (chosenSize g (reachable g)) (suc k)
-      go true e i =
-          let p = placeOf W g s k in
-          let up = lives-stand k e in
-          let t = total-put (λ a. cond (hit k a) (sizeAt P a) 0) (λ a. cond (hit (suc k) a) (sizeAt P a) 0) p (λ a ne. ap (λ b. cond b (sizeAt P a) 0) (hit-else k a ne)) W
-          (omega (arith, ends m W g s ws hs rests k up, size-pos (objectAt g k))) in
-          let c : chosenSize g (reachable g) k ≡ size (objectAt g k) = cond-true _ _ _ e in
-          omega (arith, t, i, c, ap (λ b. cond b (sizeAt P p) 0) (hit-new k e), ap (λ b. cond b (sizeAt P p) 0) (hit-at k e), size-at m W g s ws hs rests k up)
-      go false e i =
-          let c : chosenSize g (reachable g) k ≡ 0 = cond-false _ _ _ e in
-          let t = sum-same (λ a. cond (hit (suc k) a) (sizeAt P a) 0) (λ a. cond (hit k a) (sizeAt P a) 0) (λ a. ap (λ b. cond b (sizeAt P a) 0) (hit-skip k a e)) W in
-          omega (arith, t, i, c)
+      root-rank : (x h : ℕ) → x ≡ 16384 + h → h < 32 → P .rank x ≡ 0
+      root-rank x h is l = ap (P .rank) is ∙ standing m W g s snd lim rest .handles .region h (omega arith) l .0
 
-  long : W ≤ length ws
-  long = omega (arith, length-take W ws, ap length (rests .memory), length-image W g s [] (rests .sound .fits))
+  pub reach-stands : (q : ℕ) → Reachable g q → getD s q false ≡ true
+  reach-stands q (by-handle h e) = snd .held-stands h q e
+  reach-stands q (by-object p r n) = snd .named-stands p q (reach-stands p r) n
 
-  -- the words of a begun heap are the plan's with the marks of the reachable objects
-  module _ (vs : List ℕ) (words : ℕ) (begun : Begun W g s ws vs words) where
-    pub begun-long : length vs ≡ length ws
-    begun-long =
-        omega (arith, length-take W vs, ap length (begun .marked), length-image W g s (reachable g) (rests .sound .fits), length-drop W vs, length-drop W ws, ap length (begun .later), long)
+  pub reach-in : (q : ℕ) → Reachable g q → Reaches P (placeOf W g s q)
+  reach-in q (by-handle h e) =
+      let l : h < 32 = elim (cases-lt h 32) [ inl x ↦ x | inr x ↦ absurd (none (sym (getD-past (g .handles) h empty (omega (arith, snd .handles-32))) ∙ e)) ] in
+      let w = handle-at m W g s s kp rest h l ∙ ap (valueWord (reference W g s)) e in
+      let reg = standing m W g s snd lim rest .handles .region h (omega arith) l in
+      from-handle (16384 + h) (reg .2 ∙ ap refers w ∙ high-reference W g s q) (reg .0) (sym (to-place q _ w))
+    where
+      none : empty ≡ object q → ⊥
+      none z = false≢true (ap isObject z)
+  reach-in q (by-object p r n) =
+      let st = reach-stands p r in
+      let o = objectAt g p in
+      let x = names-refer o q n in
+      let i = x .0 in
+      let sl : P .slot (placeOf W g s p + i) ≡ true = slot-at m W g s s kp rest p i st (x .2) ∙ and-from _ _ st (x .1) in
+      let t = refers-to o i (x .1) (x .2) in
+      let w = word-at m W g s s kp rest p i st (x .2) ∙ names-word o q n (reference W g s) (getD s p false) in
+      from-object (placeOf W g s p) (placeOf W g s p + i) (reach-in p r) sl (rank-at m W g s s kp rest p i st (x .2) ∙ sym (rank-place p st)) (sym (to-place q _ w))
 
-    hit-head : (a : ℕ) → hit (length (g .objects)) a ≡ true → P .head a ≡ true
-    hit-head a t =
-        let r = placed-out lives (placeOf W g s) (length (g .objects)) a t in
-        placed-in (stands s) (placeOf W g s) (length (g .objects)) (r .by) a (r .below) (lives-stand (r .by) (r .chosen)) (r .is)
+  -- the marks of a marked heap are those of the reachable objects
+  pub marks-reach : (f : ℕ → ℕ) (words : ℕ) → Done P W f words → (q : ℕ) → getD s q false ≡ true → marked P f (placeOf W g s q) ≡ getD (reachable g) q false
+  marks-reach f words done q st =
+      both-same _ _
+      (λ t.
+      let r = reach-out (placeOf W g s q) (done .only (placeOf W g s q) t) in
+      let e : q ≡ r .by = one-place q (r .by) st (r .stands) (r .is) in
+      subst (λ (x : ℕ). getD (reachable g) x false ≡ true) (sym e) (reachable-complete g (r .by) (below-many W g s (snd .fits) (snd .as-long) (r .by) (r .stands)) (r .way)))
+      (λ t. done .every (placeOf W g s q) (reach-in q (reachable-sound g q t)))
 
-    begun-word : (a : ℕ) → look vs a ≡ word P a + cond (hit (length (g .objects)) a) 2 0
-    begun-word a =
-        elim (cases-lt a W) [
-          | inl lt ↦
-              sym (getD-take W vs a 0 lt) ∙ ap (λ xs. getD xs a 0) (begun .marked) ∙ words-marked a
-              ∙ ap (λ x. x + cond (hit (length (g .objects)) a) 2 0) (sym (ap (λ xs. getD xs a 0) (rests .memory)) ∙ getD-take W ws a 0 lt)
-          | inr ge ↦
-              let at : W + (a - W) ≡ a = omega arith in
-              let out : hit (length (g .objects)) a ≡ false =
-              elim (cases-bool (hit (length (g .objects)) a)) [ inl t ↦ absurd (omega (arith, plan-sound m W g s ws hs small rests .within a (hit-head a t))) | inr f ↦ f ] in
-              ap (look vs) (sym at) ∙ sym (getD-drop W vs (a - W) 0) ∙ ap (λ xs. getD xs (a - W) 0) (begun .later) ∙ getD-drop W ws (a - W) 0 ∙ ap (look ws) at
-              ∙ sym (ap (λ b. word P a + cond b 2 0) out ∙ add-zero _)
+  -- The sum of the sizes of the marked objects.
+
+  module _ (mk : List Bool) (sub : (q : ℕ) → getD mk q false ≡ true → getD s q false ≡ true) where
+    -- a is the place of one of the first n objects of mk
+    abbrev hit : ℕ → ℕ → Bool
+    hit zero a = false
+    hit (suc q) a = (getD mk q false && eqb a (placeOf W g s q)) || hit q a
+
+    hit-out : (n a : ℕ) → hit n a ≡ true → (q : ℕ) × (q < n) × (getD mk q false ≡ true) × (a ≡ placeOf W g s q)
+    hit-out zero a h = absurd (false≢true h)
+    hit-out (suc n) a h =
+        elim (or-cases (getD mk n false && eqb a (placeOf W g s n)) (hit n a) h) [
+          | inl e ↦ let p = and-parts _ _ e in (n, omega arith, p .0, eqb-true _ _ (p .1))
+          | inr e ↦ let r = hit-out n a e in (r .0, omega (arith, r .1), r .2, r .3)
         ]
 
-    begun-hit : (a : ℕ) → marked P vs a ≡ hit (length (g .objects)) a
-    begun-hit a =
-        both-same _ _
-        (λ t.
-        let p = and-parts (P .head a) (eqb (look vs a % 4) 3) t in
-        elim (cases-bool (hit (length (g .objects)) a)) [
-          | inl y ↦ y
-          | inr f ↦
-              let e : look vs a ≡ word P a + 0 = subst (λ b. look vs a ≡ word P a + cond b 2 0) f (begun-word a) in
-              absurd (omega (arith, plan-sound m W g s ws hs small rests .header a (p .0), eqb-true (look vs a % 4) 3 (p .1)))
-        ])
-        (λ t.
-        let e : look vs a ≡ word P a + 2 = subst (λ b. look vs a ≡ word P a + cond b 2 0) t (begun-word a) in
-        and-from (P .head a) (eqb (look vs a % 4) 3) (hit-head a t) (eq-eqb (look vs a % 4) 3 (omega (arith, plan-sound m W g s ws hs small rests .header a (hit-head a t)))))
+    hit-in : (n q : ℕ) → q < n → getD mk q false ≡ true → hit n (placeOf W g s q) ≡ true
+    hit-in zero q l e = absurd (omega arith)
+    hit-in (suc n) q l e =
+        elim (cases-eq q n) [
+          | inl z ↦ or-left _ _ (and-from _ _ (subst (λ (x : ℕ). getD mk x false ≡ true) z e) (eq-eqb _ _ (ap (placeOf W g s) z)))
+          | inr ne ↦ or-right _ _ (hit-in n q (omega arith) e)
+        ]
 
-    pub begun-marked : Marked P vs
-    begun-marked a = begun-word a ∙ ap (λ b. word P a + cond b 2 0) (sym (begun-hit a))
+    sizes : (n : ℕ) → total (λ a. cond (hit n a) (P .words a / 16) 0) W ≡ total (chosenSize g mk) n
+    sizes zero = total-none (λ a. 0) (λ a. refl) W
+    sizes (suc k) = go (getD mk k false) refl (sizes k)
+      where
+        p : ℕ
+        p = placeOf W g s k
 
-  module _ (vs : List ℕ) (words : ℕ) (done : Done P vs words) where
-    marked-is : (a : ℕ) → marked P vs a ≡ hit (length (g .objects)) a
-    marked-is a =
-        both-same _ _
-        (λ t.
-        let r = reach-out m W g s ws hs small rests a (done .only a t) in
-        let l = in-list m W g s ws hs rests (r .by) (reach-stands m W g s ws hs small rests (r .by) (r .way)) in
-        placed-in lives (placeOf W g s) (length (g .objects)) (r .by) a l (reachable-complete g (r .by) l (r .way)) (r .is))
-        (λ t.
-        let r = placed-out lives (placeOf W g s) (length (g .objects)) a t in
-        subst (λ x. marked P vs x ≡ true) (sym (r .is)) (done .every (placeOf W g s (r .by)) (reach-in m W g s ws hs small rests (r .by) (reachable-sound g (r .by) (r .chosen)))))
+        go : (b : Bool) → getD mk k false ≡ b → total (λ a. cond (hit k a) (P .words a / 16) 0) W ≡ total (chosenSize g mk) k → total (λ a. cond (hit (suc k) a) (P .words a / 16) 0) W ≡ total (chosenSize g mk) (suc k)
+        go true e i =
+            let st = sub k e in
+            let fresh : hit k (placeOf W g s k) ≡ false =
+            elim (cases-bool (hit k (placeOf W g s k))) [
+              | inl t ↦ let r = hit-out k (placeOf W g s k) t in let same = one-place k (r .0) st (sub (r .0) (r .2)) (r .3) in absurd (omega (arith, same, r .1))
+              | inr f ↦ f
+            ] in
+            let on = hit-in (suc k) k (omega arith) e in
+            let size-is : P .words (placeOf W g s k) / 16 ≡ size (objectAt g k) = ap (λ (w : ℕ). w / 16) (head-word m W g s s kp rest k st) ∙ headers-read (getD s k false) (headerKind (objectAt g k)) (size (objectAt g k)) (kind-four (objectAt g k)) .sizes in
+            let t =
+            total-put (λ a. cond (hit k a) (P .words a / 16) 0) (λ a. cond (hit (suc k) a) (P .words a / 16) 0) (placeOf W g s k)
+            (λ a ne. ap (λ (b : Bool). cond (b || hit k a) (P .words a / 16) 0) (and-right (getD mk k false) (eqb a (placeOf W g s k)) (ne-eqb a (placeOf W g s k) ne))) W
+            (omega (arith, ends m W g s s kp rest k st, size-pos (objectAt g k))) in
+            let c : chosenSize g mk k ≡ size (objectAt g k) = cond-true _ _ _ e in
+            omega (arith, t, i, c, size-is, ap (λ (b : Bool). cond b (P .words (placeOf W g s k) / 16) 0) fresh, ap (λ (b : Bool). cond b (P .words (placeOf W g s k) / 16) 0) on)
+        go false e i =
+            let c : chosenSize g mk k ≡ 0 = cond-false _ _ _ e in
+            let t =
+            total-same (λ a. cond (hit k a) (P .words a / 16) 0) (λ a. cond (hit (suc k) a) (P .words a / 16) 0) W
+            (λ a l. ap (λ (b : Bool). cond (b || hit k a) (P .words a / 16) 0) (and-left (getD mk k false) (eqb a (placeOf W g s k)) e)) in
+            omega (arith, t, i, c)
 
-    pub begun : Begun W g s ws vs words
-    begun =
-        record {
-          marked =
-              ext-getD 0 (take W vs) (image W g s (reachable g)) (omega (arith, length-take W vs, length-image W g s (reachable g) (rests .sound .fits), long, done .long))
-              (λ a l.
-              let lt : a < W = omega (arith, length-take W vs) in
-              getD-take W vs a 0 lt ∙ done .is a
-              ∙ ap₂ (λ (x : ℕ) (b : Bool). x + cond b 2 0) (sym (getD-take W ws a 0 lt) ∙ ap (λ xs. getD xs a 0) (rests .memory)) (marked-is a)
-              ∙ sym (words-marked a));
-          later =
-              ext-getD 0 (drop W vs) (drop W ws) (omega (arith, length-drop W vs, length-drop W ws, done .long))
-              (λ i l.
-              let out : marked P vs (W + i) ≡ false =
-              elim (cases-bool (marked P vs (W + i))) [ inl t ↦ absurd (omega (arith, plan-sound m W g s ws hs small rests .within (W + i) (and-parts _ _ t .0))) | inr f ↦ f ] in
-              getD-drop W vs i 0 ∙ done .is (W + i) ∙ ap (λ b. word P (W + i) + cond b 2 0) out ∙ add-zero _ ∙ sym (getD-drop W ws i 0));
-          live =
-              done .lives
-              ∙ sum-same (λ a. cond (marked P vs a) (sizeAt P a) 0) (λ a. cond (hit (length (g .objects)) a) (sizeAt P a) 0) (λ a. ap (λ b. cond b (sizeAt P a) 0) (marked-is a)) W
-              ∙ sizes-upto (length (g .objects)) (omega arith);
-        }
+    pub live-is : (f : ℕ → ℕ) → ((q : ℕ) → getD s q false ≡ true → marked P f (placeOf W g s q) ≡ getD mk q false) → live P W f ≡ wordsOf g mk
+    live-is f marks =
+        total-same (λ a. cond (hit (length (g .objects)) a) (P .words a / 16) 0) (λ a. cond (marked P f a) (P .words a / 16) 0) W
+        (λ a l. ap (λ (b : Bool). cond b (P .words a / 16) 0) (both-same (marked P f a) (hit (length (g .objects)) a) (λ t.
+        let x = head-of m W g s s kp rest a (and-parts (P .head a) (eqb (f a % 4) 3) t .0) in
+        subst (λ (p : ℕ). hit (length (g .objects)) p ≡ true) (sym (x .3))
+        (hit-in (length (g .objects)) (x .0) (below-many W g s (snd .fits) (snd .as-long) (x .0) (x .2)) (sym (marks (x .0) (x .2)) ∙ subst (λ (p : ℕ). marked P f p ≡ true) (x .3) t)))
+        (λ t. let r = hit-out (length (g .objects)) a t in subst (λ (p : ℕ). marked P f p ≡ true) (sym (r .3)) (marks (r .0) (sub (r .0) (r .2)) ∙ r .2))))
+        ∙ sizes (length (g .objects))
 
-pub bridged : Bridged
-bridged m W g s ws hs vs words small rests marks =
-    begun m W g s ws hs small rests vs words
-    (marks (planOf m W g s ws hs) (plan-sound m W g s ws hs small rests) refl refl refl (plan-sides m W g s ws hs small rests))
+-- the words of a heap at rest, with what lies behind them
+pub rest-words : (m : Meaning) (W : ℕ) (g : Graph) (s : List Bool) (ws hs : List ℕ) → Rests m W g s ws hs → ws ≡ image W g s [] ++ drop W ws
+rest-words m W g s ws hs r = sym (take-append-drop W ws) ∙ ap (λ (x : List ℕ). x ++ drop W ws) (r .memory)
 
-pub given-up : (m : Meaning) (W low high : ℕ) (hs vs ts : List ℕ) → Unmarks W low high vs ts → GivenUp m W low high hs vs ts
-given-up m W low high hs vs ts un g s ws words small rests l h begun =
-    un (planOf m W g s ws hs) (plan-sound m W g s ws hs small rests)
-    (subst (λ x. Sides (planOf m W g s ws hs) W x high) (sym l) (subst (λ x. Sides (planOf m W g s ws hs) W (lowEnd g s) x) (sym h) (plan-sides m W g s ws hs small rests)))
-    (begun-long m W g s ws hs small rests vs words begun) (begun-marked m W g s ws hs small rests vs words begun)
+pub begins : (m : Meaning) (W low high : ℕ) (ws hs us is vs gs : List ℕ) (q r t : Pending) → q .count ≡ 0 → q .overflow ≡ false → q .live ≡ 0 →
+    Kept ws hs us is → Rooted ws hs q us is r → Kept us is vs gs → Settled m W low high us is r vs gs t → Begins m W low high ws hs vs gs (t .live)
+begins m W low high ws hs us is vs gs q r t none room bare k1 roots k2 settled g s lim rests el eh =
+    let snd = rests .sound in
+    let rest = drop W ws in
+    let P = plan W g s s rest in
+    let st = standing m W g s snd lim rest in
+    let whole = rest-words m W g s ws hs rests in
+    let words : view ws hs ≡ look m W g s snd lim rest [] = ap₂ view whole (rests .handle-words) in
+    let len : P .n ≡ length ws = sym (ap length whole ∙ length-append (image W g s []) rest ∙ ap (λ (n : ℕ). n + length rest) (length-image W g s [] (snd .fits))) in
+    let is0 : Marked P (view ws hs) = subst (Marked P) (sym words) (image-marked m W g s snd lim rest []) in
+    let fresh : (a : ℕ) → marked P (view ws hs) a ≡ false = λ a.
+    elim (cases-bool (marked P (view ws hs) a)) [
+      | inr f ↦ f
+      | inl on ↦
+          let x = head-of m W g s s (keeps-all m W g s snd lim) rest a (and-parts (P .head a) (eqb (view ws hs a % 4) 3) on .0) in
+          absurd (false≢true (sym (marks-in m W g s snd lim rest [] (x .0) (x .2)) ∙ subst (λ (f : ℕ → ℕ). marked P f (placeOf W g s (x .0)) ≡ true) words (subst (λ (p : ℕ). marked P (view ws hs) p ≡ true) (x .3) on)))
+    ] in
+    let rooted = roots m P W st len (start m P W st (view ws hs) q is0 fresh none room bare) in
+    let done = settled P st (len ∙ sym (k1 .length)) (sides m W g s snd lim rest low high el eh) rooted in
+    let marks = marks-reach m W g s snd lim rest (view vs gs) (t .live) done in
+    let im =
+    marked-image m W g s snd lim rest (reachable g) vs gs (done .is) marks (k2 .length ∙ k1 .length ∙ sym len)
+    (k2 .many ∙ k1 .many ∙ ap length (rests .handle-words) ∙ length-map (g .handles) (valueWord (reference W g s)) ∙ snd .handles-32)
+    (λ i l. k2 .past i l ∙ k1 .past i l ∙ ap (λ (x : List ℕ). getD x i 0) whole ∙ rest-at m W g s s (keeps-all m W g s snd lim) rest s [] (snd .fits) i (omega arith)) in
+    let sc = sound-collects m W g s snd in
+    let stand : (p : ℕ) → getD (reachable g) p false ≡ true → getD s p false ≡ true = λ p e. reach-stands m W g s snd lim rest p (reachable-sound g p e) in
+    record {
+      begun =
+          record {
+            keeps = record { sound = snd; limit = lim; as-long = sc .as-long; stand = stand; held-kept = sc .held-stands; named-kept = sc .named-stands };
+            memory = im .0;
+            handle-words = im .1;
+            low-end = el;
+            high-end = eh;
+          };
+      handles = im .1 ∙ sym (rests .handle-words);
+      live = done .lives ∙ live-is m W g s snd lim rest (reachable g) stand (view vs gs) marks;
+    }
+
+pub gives-up : (W low high : ℕ) (vs gs us is ts js : List ℕ) → UnmarkedSide true 0 low vs gs us is → Kept vs gs us is → UnmarkedSide false W high us is ts js → Kept us is ts js → GivesUp W low high vs gs ts js
+gives-up W low high vs gs us is ts js u1 k1 u2 k2 m g s k ws hs rests begun =
+    let snd = rests .sound in
+    let lim = begun .keeps .limit in
+    let rest = drop W ws in
+    let P = plan W g s s rest in
+    let st = standing m W g s snd lim rest in
+    let words : view vs gs ≡ look m W g s snd lim rest k = ap₂ view (begun .memory) (begun .handle-words) in
+    let len : P .n ≡ length vs = sym (ap length (begun .memory) ∙ length-append (image W g s k) rest ∙ ap (λ (n : ℕ). n + length rest) (length-image W g s k (snd .fits))) in
+    let is0 : Marked P (view vs gs) = subst (Marked P) (sym words) (image-marked m W g s snd lim rest k) in
+    let sd = sides m W g s snd lim rest low high (begun .low-end) (begun .high-end) in
+    let f1 =
+    u1 m P W (sd .records) st len (sd .records-from) (sd .records-end) (sd .records-all)
+    (record { is = is0; behind = λ a on. let c = st .planned .counted a (and-parts (P .head a) (eqb (view vs gs a % 4) 3) on .0) .0 in subst (λ (n : ℕ). n < P .rank a) (sym (sd .records-first)) c }) in
+    let f2 =
+    u2 m P W (sd .classes) st (len ∙ sym (k1 .length)) (sd .classes-from) (sd .classes-end) (sd .classes-all)
+    (subst (λ (n : ℕ). Fading P n (view us is)) (sym (sd .classes-first)) f1) in
+    let off = faded P (view ts js) (st .planned) (subst (λ (n : ℕ). Fading P n (view ts js)) (sd .classes-last) f2) in
+    let im =
+    marked-image m W g s snd lim rest [] ts js (f2 .is) (λ q e. off (placeOf W g s q)) (k2 .length ∙ k1 .length ∙ sym len)
+    (k2 .many ∙ k1 .many ∙ ap length (begun .handle-words) ∙ length-map (g .handles) (valueWord (reference W g s)) ∙ snd .handles-32)
+    (λ i l. k2 .past i l ∙ k1 .past i l ∙ ap (λ (x : List ℕ). getD x i 0) (begun .memory) ∙ rest-at m W g s s (keeps-all m W g s snd lim) rest s k (snd .fits) i (omega arith)) in
+    (im .0 ∙ sym (rest-words m W g s ws hs rests), im .1 ∙ sym (rests .handle-words))

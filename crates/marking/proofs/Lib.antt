@@ -1,9 +1,7 @@
 pub mod Totals
 pub mod Steps
 pub mod Walks
-pub mod Whole
+pub mod Rounds
 pub mod Fades
-pub mod Places
-pub mod Edges
-pub mod Standing
+pub mod Images
 pub mod Bridge

@@ -1,20 +1,16 @@
-// Marking, with at most 64 pending places outside the memory.
+// Marking: exactly the reachable objects, with at most 64 pending places outside the memory.
 ghost use mathlib.Core.Path.{_≡_};
 ghost use Prim.Native.Nat.{_≤_};
 ghost use lib.ListN.{length};
 
-mod begins;
-mod marks;
-mod sides;
-mod unmarks;
+mod mark;
+mod unmark;
 
-pub use begins::begin;
-pub use begins::give_up;
+pub use mark::begin;
+pub use unmark::give_up;
 
-pub const WORDS: usize = 16384;
-
-// Places of marked objects that are still to be scanned; `overflow` is set where one found no room.
-// `live` is the words of the objects marked so far.
+/// Places of marked objects whose references are still to be marked. Where one found no room, `overflow` asks for another scan of the heap.
+/// `live` is the words of the objects marked so far.
 #[derive(Drop)]
 pub struct Pending {
     places: [u32; 64],

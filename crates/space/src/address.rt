@@ -7,7 +7,7 @@ use crate::WORDS;
 use memory::Memory;
 
 impl<M: Memory> Space<M> {
-    // A space with empty handles.
+    /// A space with empty handles.
     pub fn new(memory: M) -> Self {
         Space {
             memory,
@@ -15,7 +15,7 @@ impl<M: Memory> Space<M> {
         }
     }
 
-    // The word at an address, 0 past the last.
+    /// The word at an address, 0 past the last.
     pub fn look(&self, address: u32) -> u32
         ensures { λ r. ⌜ r ≡ view (M·Memory .words (now (self .entry) .memory)) (now (self .entry) .handles) address ⌝ }
     {
@@ -28,7 +28,7 @@ impl<M: Memory> Space<M> {
         }
     }
 
-    // Sets the word at an address; past the last, or past the memory's words, it does nothing.
+    /// Sets the word at an address; past the last, or past the memory's words, it does nothing.
     pub fn store(&mut self, address: u32, word: u32)
         ensures { λ _. ⌜ Stored (M·Memory .words (now (self .entry) .memory)) (now (self .entry) .handles) address word (M·Memory .words (now (self .exit) .memory)) (now (self .exit) .handles) ⌝ }
     {

@@ -42,7 +42,7 @@ impl<M: Memory> Space<M> {
         }
     }
 
-    // A marked object of the forward pass.
+    // A marked object: its list is unthreaded to the new place, then its references are threaded.
     fn visit<S: Scheme>(&mut self, scheme: &S, place: u32, new_place: u32, size: u32, kind: u32)
         requires { ⌜ place + size ≤ 16384 ⌝ }
         ensures visited { λ _. ⌜ Visited (S·Scheme .meaning (now (scheme .entry))) (M·Memory .words (now (self .entry) .memory)) (now (self .entry) .handles) place «new_place» size kind (M·Memory .words (now (self .exit) .memory)) (now (self .exit) .handles) ⌝ }
@@ -53,7 +53,7 @@ impl<M: Memory> Space<M> {
         self.thread_words(scheme, place, size, kind, rule);
     }
 
-    // The forward pass over a side.
+    // Goes over a side.
     fn draw_side<T: Side, S: Scheme>(&mut self, scheme: &S, from: u32, end: u32)
         ensures drawn { λ _. ⌜ Drawn-side (S·Scheme .meaning (now (scheme .entry))) (T·Side .upward) (M·Memory .words (now (self .entry) .memory)) (now (self .entry) .handles) from end (M·Memory .words (now (self .exit) .memory)) (now (self .exit) .handles) ⌝ }
         ensures kept { λ _. ⌜ Kept (M·Memory .words (now (self .entry) .memory)) (now (self .entry) .handles) (M·Memory .words (now (self .exit) .memory)) (now (self .exit) .handles) ⌝ }
@@ -81,7 +81,7 @@ impl<M: Memory> Space<M> {
         }
     }
 
-    // The forward pass over the handles and the records.
+    /// The forward update of the handles and the records.
     pub fn draw_records<S: Scheme>(&mut self, scheme: &S, low: u32)
         ensures drawn { λ _. ⌜ Draws-records (S·Scheme .meaning (now (scheme .entry))) (M·Memory .words (now (self .entry) .memory)) (now (self .entry) .handles) low (M·Memory .words (now (self .exit) .memory)) (now (self .exit) .handles) ⌝ }
         ensures kept { λ _. ⌜ Kept (M·Memory .words (now (self .entry) .memory)) (now (self .entry) .handles) (M·Memory .words (now (self .exit) .memory)) (now (self .exit) .handles) ⌝ }
@@ -90,7 +90,7 @@ impl<M: Memory> Space<M> {
         self.draw_side::<Records, S>(scheme, 0, low);
     }
 
-    // The forward pass over the classes.
+    /// The forward update of the classes, once all records are done: until then every word of a class but its header is as it was.
     pub fn draw_classes<S: Scheme>(&mut self, scheme: &S, limit: u32, high: u32)
         ensures drawn { λ _. ⌜ Draws-classes (S·Scheme .meaning (now (scheme .entry))) (M·Memory .words (now (self .entry) .memory)) (now (self .entry) .handles) limit high (M·Memory .words (now (self .exit) .memory)) (now (self .exit) .handles) ⌝ }
         ensures kept { λ _. ⌜ Kept (M·Memory .words (now (self .entry) .memory)) (now (self .entry) .handles) (M·Memory .words (now (self .exit) .memory)) (now (self .exit) .handles) ⌝ }
@@ -98,7 +98,7 @@ impl<M: Memory> Space<M> {
         self.draw_side::<Classes, S>(scheme, limit, high);
     }
 
-    // The forward pass.
+    /// The forward update.
     pub fn draw<S: Scheme>(&mut self, scheme: &S, limit: u32, low: u32, high: u32)
         ensures drawn { λ _. ⌜ Draws (S·Scheme .meaning (now (scheme .entry))) (M·Memory .words (now (self .entry) .memory)) (now (self .entry) .handles) limit low high (M·Memory .words (now (self .exit) .memory)) (now (self .exit) .handles) ⌝ }
         ensures kept { λ _. ⌜ Kept (M·Memory .words (now (self .entry) .memory)) (now (self .entry) .handles) (M·Memory .words (now (self .exit) .memory)) (now (self .exit) .handles) ⌝ }

@@ -8,7 +8,7 @@ use crate::WORDS;
 use memory::Memory;
 use scheme::Scheme;
 
-// Whether word i of an object of the kind holds a value, under the rule.
+/// Whether word i of an object of the kind holds a value, under the rule.
 pub fn is_value<S: Scheme>(scheme: &S, kind: u32, rule: u32, i: u32) -> bool
     ensures { λ r. ⌜ r ≡ valueAt (S·Scheme .meaning (now (scheme .entry))) kind rule i ⌝ }
 {
@@ -20,7 +20,7 @@ pub fn is_value<S: Scheme>(scheme: &S, kind: u32, rule: u32, i: u32) -> bool
 }
 
 impl<M: Memory> Space<M> {
-    // The rule of the record at the place, through its layout and map.
+    /// The rule of the record at the place, through its layout and map.
     pub fn rule_of(&self, place: u32) -> u32
         ensures { λ r. ⌜ (place < 16384 → r ≡ ruleAt (view (M·Memory .words (now (self .entry) .memory)) (now (self .entry) .handles)) place) ⌝ }
     {

@@ -20,7 +20,7 @@ fn reference_to(place: u32, header: u32) -> u32
 
 impl<M: Memory> Space<M> {
     // The header at the end of the list that begins at the header's place.
-    pub fn header_of(&self, place: u32) -> u32
+    pub(crate) fn header_of(&self, place: u32) -> u32
         ensures { λ r. ⌜ Heads (M·Memory .words (now (self .entry) .memory)) (now (self .entry) .handles) place r ⌝ }
     {
         let mut word = self.look(place);
@@ -34,7 +34,7 @@ impl<M: Memory> Space<M> {
     }
 
     // Threads the reference in the slot.
-    pub fn thread(&mut self, slot: u32)
+    pub(crate) fn thread(&mut self, slot: u32)
         ensures woven { λ _. ⌜ Threaded (M·Memory .words (now (self .entry) .memory)) (now (self .entry) .handles) slot (M·Memory .words (now (self .exit) .memory)) (now (self .exit) .handles) ⌝ }
         ensures kept { λ _. ⌜ Kept (M·Memory .words (now (self .entry) .memory)) (now (self .entry) .handles) (M·Memory .words (now (self .exit) .memory)) (now (self .exit) .handles) ⌝ }
     {
@@ -47,7 +47,7 @@ impl<M: Memory> Space<M> {
     }
 
     // Takes the list off the header at the place, and has each of its slots refer to the new place.
-    pub fn unthread(&mut self, place: u32, new_place: u32)
+    pub(crate) fn unthread(&mut self, place: u32, new_place: u32)
         ensures woven { λ _. ⌜ Unthreaded (M·Memory .words (now (self .entry) .memory)) (now (self .entry) .handles) place «new_place» (M·Memory .words (now (self .exit) .memory)) (now (self .exit) .handles) ⌝ }
         ensures kept { λ _. ⌜ Kept (M·Memory .words (now (self .entry) .memory)) (now (self .entry) .handles) (M·Memory .words (now (self .exit) .memory)) (now (self .exit) .handles) ⌝ }
     {
