@@ -3,3 +3,4 @@ mod Acts
 mod Readings
 mod Exits
 mod Objects
+mod Stepping

@@ -110,5 +110,5 @@ Alters (class-made d n ws) v (Ok x) v′ = n ≤ v .high - v .low → v .high �
 Alters (class-made d n ws) v (Err e) v′ = (e ≡ Full → ⊥) → v′ ≡ v
 Alters (record-made d n ws) v (Ok x) v′ = n ≤ v .high - v .low → v .high ≤ 16384 → v′ ≡ withRecord v d n ws
 Alters (record-made d n ws) v (Err e) v′ = (e ≡ Full → ⊥) → v′ ≡ v
-Alters weighs v out v′ = (v′ .handles ≡ v .handles) × (v′ .low ≡ v .low) × (v′ .high ≡ v .high) × (v′ .limit ≡ v .limit)
+Alters weighs v out v′ = (v′ .low ≡ v .low) × (v′ .high ≡ v .high) × (v′ .limit ≡ v .limit)
 Alters packs v out v′ = v′ .limit ≡ v .limit

@@ -20,9 +20,8 @@ impl<M: Memory, S: Scheme> Heap<M, S> {
         ensures scheme { λ _. ⌜ now (self .exit) .scheme ≡ now (self .entry) .scheme ⌝ }
     {
         begin(
-            &mut self.space.memory,
+            &mut self.space,
             &self.scheme,
-            &self.space.handles,
             self.limit,
             self.low,
             self.high,
@@ -34,7 +33,7 @@ impl<M: Memory, S: Scheme> Heap<M, S> {
         ensures rests { λ _. ⌜ GivesUp (S·Scheme .meaning (now (self .entry) .scheme)) (view (M·Memory .words) (now (self .entry))) (view (M·Memory .words) (now (self .exit))) ⌝ }
         ensures scheme { λ _. ⌜ now (self .exit) .scheme ≡ now (self .entry) .scheme ⌝ }
     {
-        give_up(&mut self.space.memory, self.limit, self.low, self.high);
+        give_up(&mut self.space, self.limit, self.low, self.high);
     }
 
     /// The forward update of the marked objects.
@@ -70,6 +69,8 @@ impl<M: Memory, S: Scheme> Heap<M, S> {
     /// Tells the live words, and leaves everything as it was.
     pub(crate) fn weigh(&mut self) -> u32
         ensures tells { λ r. ⌜ Tells (S·Scheme .meaning (now (self .entry) .scheme)) (view (M·Memory .words) (now (self .entry))) (view (M·Memory .words) (now (self .exit))) r ⌝ }
+        ensures low { λ _. ⌜ now (self .exit) .low ≡ now (self .entry) .low ⌝ }
+        ensures high { λ _. ⌜ now (self .exit) .high ≡ now (self .entry) .high ⌝ }
         ensures scheme { λ _. ⌜ now (self .exit) .scheme ≡ now (self .entry) .scheme ⌝ }
     {
         let live = self.mark();

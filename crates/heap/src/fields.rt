@@ -29,7 +29,9 @@ impl<M: Memory, S: Scheme> Heap<M, S> {
         check_handle(owner, 1)?;
         check_handle(source, 3)?;
         let place = self.field_in(self.space.handles[owner as usize], 1, field, 2, false)?;
-        self.space.memory.write(place, self.space.handles[source as usize]);
+        self.space
+            .memory
+            .write(place, self.space.handles[source as usize]);
         Ok(())
     }
 

@@ -21,9 +21,9 @@ returns-then-is-raw-raw g c =
     record {
       place = tt;
       sifts = λ gr s x st is k.
-    sifts-err
-    (other-field _ _ gr s st x (c .args .word) (c .args .field) (c .args .at) (c .args .raw) (c .is-raw .result) is k (omega (arith, c .read-size .ensures)) (c .rule-of-rule .result)
-    (λ q here kind e. c .rule-of-rule .ensures gr s q st here kind (c .read .ensures ∙ e)) (c .is-raw .ensures) (c .if-is-raw-raw .taken));
+          sifts-err
+          (other-field _ _ gr s st x (c .args .word) (c .args .field) (c .args .at) (c .args .raw) (c .is-raw .result) is k (omega (arith, c .read-size .ensures)) (c .rule-of-rule .result)
+          (λ q here kind e. c .rule-of-rule .ensures gr s q st here kind (c .read .ensures ∙ e)) (c .is-raw .ensures) (c .if-is-raw-raw .taken));
     }
 
 pub returns : need.returns
@@ -31,8 +31,8 @@ returns g c =
     record {
       place = omega arith;
       sifts = λ gr s x st is k.
-    sifts-ok
-    (good-field _ _ gr s st x (c .args .word) (c .args .field) (c .args .at) (c .args .raw) (c .is-raw .result) is k (omega (arith, c .read-size .ensures)) (c .rule-of-rule .result)
-    (λ q here kind e. c .rule-of-rule .ensures gr s q st here kind (c .read .ensures ∙ e)) (c .is-raw .ensures) (c .if-is-raw-raw .left))
-    (omega arith);
+          sifts-ok
+          (good-field _ _ gr s st x (c .args .word) (c .args .field) (c .args .at) (c .args .raw) (c .is-raw .result) is k (omega (arith, c .read-size .ensures)) (c .rule-of-rule .result)
+          (λ q here kind e. c .rule-of-rule .ensures gr s q st here kind (c .read .ensures ∙ e)) (c .is-raw .ensures) (c .if-is-raw-raw .left))
+          (omega arith);
     }
