@@ -1,8 +1,9 @@
 // Wild calls for trials: the same seed gives the same calls on every machine.
 //
-// Most arguments are small, so that calls meet one another's objects and are granted often; the rest stand at the ends of
-// what is allowed, one beyond them, or anywhere among the words.
-ghost use Prim.Native.Nat.{_<_};
+// Most calls are near to being granted: maps are mostly kept in handles 0 to 2, layouts in 3 to 6, records in 7 to 18, and
+// anything in the others. The rest of the arguments stand at the ends of what is allowed, one beyond them, or anywhere
+// among the words.
+ghost use Prim.Native.Nat.{_+_, _<_, _≤_};
 use graph::Call;
 
 /// A generator of calls: xorshift on 64 bits.
@@ -46,13 +47,44 @@ impl Wild {
 
 // Arguments.
 impl Wild {
-    /// A handle: mostly one of the first six, else any, among them 32 and 33, which are none.
-    fn handle(&mut self) -> u32 {
+    /// Mostly one of so many handles from the first on; else any, among them 32 and 33, which are none.
+    fn handle(&mut self, first: u32, count: u32) -> u32
+        requires { ⌜ 0 < count ⌝ ∗ ⌜ first + count ≤ 32 ⌝ }
+    {
         match self.below(32) {
             0 => self.word(),
-            1..=5 => self.below(34),
-            _ => self.below(6),
+            1 | 2 => self.below(34),
+            _ => first + self.below(count),
         }
+    }
+
+    fn map(&mut self) -> u32 {
+        self.handle(0, 3)
+    }
+
+    fn layout(&mut self) -> u32 {
+        self.handle(3, 4)
+    }
+
+    fn record(&mut self) -> u32 {
+        self.handle(7, 12)
+    }
+
+    fn any(&mut self) -> u32 {
+        self.handle(0, 32)
+    }
+
+    /// The handle of a map or, as often, handle 31, which mostly stays empty.
+    fn parent(&mut self) -> u32 {
+        match self.below(2) {
+            0 => self.map(),
+            _ => self.handle(31, 1),
+        }
+    }
+
+    /// A handle for a loaded value.
+    fn loose(&mut self) -> u32 {
+        self.handle(19, 12)
     }
 
     /// A number: small, about the range's ends, or any.
@@ -65,22 +97,31 @@ impl Wild {
         }
     }
 
-    /// A field count or field number: mostly up to 5, else up to 34, or any.
-    fn field(&mut self) -> u32 {
+    /// A field count: mostly 2 to 6, else up to 34, or any.
+    fn fields(&mut self) -> u32 {
         match self.below(16) {
             0 => self.word(),
             1 | 2 => self.below(35),
-            _ => self.below(6),
+            _ => 2 + self.below(5),
         }
     }
 
-    /// A rule: mostly up to 5, else up to 33, one bit, or any.
+    /// A field number: mostly up to 3, else up to 34, or any.
+    fn field(&mut self) -> u32 {
+        match self.below(16) {
+            0 => self.word(),
+            1 => self.below(35),
+            _ => self.below(4),
+        }
+    }
+
+    /// A rule: mostly up to 2, else up to 33, one bit, or any.
     fn rule(&mut self) -> u32 {
         match self.below(8) {
             0 => self.word(),
             1 => 1 << self.below(32),
             2 => self.below(34),
-            _ => self.below(6),
+            _ => self.below(3),
         }
     }
 
@@ -91,91 +132,130 @@ impl Wild {
             _ => self.below(512),
         }
     }
-
-    /// A part: 0 to 4, and now and then any.
-    fn part(&mut self) -> u32 {
-        match self.below(16) {
-            0 => self.word(),
-            _ => self.below(5),
-        }
-    }
 }
 
 // Calls.
 impl Wild {
     /// The next call.
     pub fn next_call(&mut self) -> Call {
-        match self.below(16) {
-            0..=5 => self.making(),
-            6..=9 => self.moving(),
-            10..=12 => self.reaching(),
-            13 | 14 => self.asking(),
+        match self.below(32) {
+            0..=11 => self.making(),
+            12..=17 => self.moving(),
+            18..=26 => self.reaching(),
+            27..=29 => self.asking(),
             _ => self.collecting(),
         }
     }
 
     /// A call that makes an object: records most of all.
     fn making(&mut self) -> Call {
-        match self.below(6) {
+        match self.below(8) {
             0 => Call::Map {
-                target: self.handle(),
+                target: self.map(),
                 rule: self.rule(),
-                name: self.handle(),
-                parent: self.handle(),
+                name: self.any(),
+                parent: self.parent(),
             },
             1 => Call::Layout {
-                target: self.handle(),
-                fields: self.field(),
-                map: self.handle(),
+                target: self.layout(),
+                fields: self.fields(),
+                map: self.map(),
             },
             _ => Call::Record {
-                target: self.handle(),
-                layout: self.handle(),
+                target: self.record(),
+                layout: self.layout(),
             },
         }
     }
 
     /// A call that sets a handle.
     fn moving(&mut self) -> Call {
-        match self.below(6) {
+        match self.below(8) {
             0 => Call::Num {
-                handle: self.handle(),
+                handle: self.loose(),
                 number: self.number(),
             },
-            1 => Call::Clear {
-                handle: self.handle(),
+            1 => Call::Clear { handle: self.any() },
+            2 => Call::Clear {
+                handle: self.record(),
             },
-            2 | 3 => Call::Copy {
-                target: self.handle(),
-                source: self.handle(),
+            3 | 4 => Call::Copy {
+                target: self.record(),
+                source: self.record(),
+            },
+            5 => Call::Copy {
+                target: self.any(),
+                source: self.any(),
+            },
+            _ => self.taking(),
+        }
+    }
+
+    /// A call that takes a part of an object: mostly one that the object has.
+    fn taking(&mut self) -> Call {
+        match self.below(8) {
+            0 => Call::Part {
+                target: self.any(),
+                object: self.any(),
+                part: self.below(5),
+            },
+            1 => Call::Part {
+                target: self.any(),
+                object: self.any(),
+                part: self.word(),
+            },
+            2 => Call::Part {
+                target: self.layout(),
+                object: self.record(),
+                part: 0,
+            },
+            3 => Call::Part {
+                target: self.map(),
+                object: self.layout(),
+                part: 1,
+            },
+            4 | 5 => Call::Part {
+                target: self.loose(),
+                object: self.map(),
+                part: 2,
             },
             _ => Call::Part {
-                target: self.handle(),
-                object: self.handle(),
-                part: self.part(),
+                target: self.loose(),
+                object: self.map(),
+                part: 3,
             },
         }
     }
 
     /// A call that goes to a field.
     fn reaching(&mut self) -> Call {
-        match self.below(6) {
+        match self.below(8) {
             0 => Call::Load {
-                target: self.handle(),
-                record: self.handle(),
+                target: self.record(),
+                record: self.record(),
                 field: self.field(),
             },
-            1..=3 => Call::Save {
-                record: self.handle(),
+            1 => Call::Load {
+                target: self.loose(),
+                record: self.record(),
                 field: self.field(),
-                source: self.handle(),
             },
-            4 => Call::RawLoad {
-                record: self.handle(),
+            2..=4 => Call::Save {
+                record: self.record(),
+                field: self.field(),
+                source: self.record(),
+            },
+            5 => Call::Save {
+                record: self.record(),
+                field: self.field(),
+                source: self.any(),
+            },
+            6 => Call::RawLoad {
+                record: self.record(),
                 field: self.field(),
             },
             _ => Call::RawSave {
-                record: self.handle(),
+                record: self.record(),
                 field: self.field(),
                 word: self.raw(),
             },
@@ -184,22 +264,22 @@ impl Wild {
 
     /// A call that only asks.
     fn asking(&mut self) -> Call {
-        match self.below(5) {
-            0 => Call::Kind {
-                handle: self.handle(),
-            },
+        match self.below(6) {
+            0 => Call::Kind { handle: self.any() },
             1 => Call::Value {
-                handle: self.handle(),
+                handle: self.loose(),
             },
             2 => Call::Same {
-                first: self.handle(),
-                second: self.handle(),
+                first: self.any(),
+                second: self.any(),
             },
-            3 => Call::Figure {
-                handle: self.handle(),
+            3 => Call::Same {
+                first: self.record(),
+                second: self.record(),
             },
+            4 => Call::Figure { handle: self.any() },
             _ => Call::Raws {
-                handle: self.handle(),
+                handle: self.layout(),
             },
         }
     }
