@@ -3,6 +3,7 @@ pub mod Graph
 pub mod Reach
 pub mod Step
 pub mod Words
+pub mod Places
 pub mod Advance
 pub mod Examples
 pub mod Sound

@@ -22,12 +22,13 @@ use Rattle.graph.proofs.Frame.{length-image, size-pos}
 use Rattle.graph.proofs.Grow.{total-same}
 use Rattle.graph.proofs.Laws.{references-read, headers-read}
 use Rattle.space.specs.Weave.{view, Kept}
-use Rattle.space.specs.Pass.{Plan, Planned, refers}
-use Rattle.space.specs.Layout.{Keeps, Begun, isObject, cellRefers, refersAt, turnOf, owner, plan}
-use Rattle.space.proofs.Owners.{one-turn, below-many, turn-bounds}
-use Rattle.space.proofs.Fields.{refers-to}
+use Rattle.graph.specs.Places.{refers}
+use Rattle.space.specs.Pass.{Plan, Planned}
+use Rattle.graph.specs.Places.{isObject, cellRefers, refersAt, turnOf, owner}
+use Rattle.space.specs.Layout.{Keeps, Begun, plan}
+use Rattle.graph.proofs.Places.{rest-at, one-turn, below-many, turn-bounds}
+use Rattle.graph.proofs.Slots.{names-refer, names-word, refers-to}
 use Rattle.space.proofs.Plans.{Body, Root, slot-of, head-of, slot-at, rank-at, word-at, handle-at, head-word, owner-place, ends, high-reference, kind-four}
-use Rattle.space.proofs.Finals.{rest-at}
 use Rattle.marking.specs.declared.Pending.{Pending}
 use Rattle.marking.specs.Marks.{Standing, Sides, Marked, marked, Reaches, by-handle as from-handle, by-object as from-object, live, Going, stage, nothing, Rooted, Settled, Done}
 use Rattle.marking.specs.Unmarks.{Fading, UnmarkedSide}
@@ -41,29 +42,6 @@ both-same : (x y : Bool) → (x ≡ true → y ≡ true) → (y ≡ true → x �
 both-same true y f h = sym (f refl)
 both-same false true f h = h refl
 both-same false false f h = refl
-
--- what an object names stands in one of its reference slots
-abbrev names-refer : (o : Object) (t : ℕ) → Names o t → (i : ℕ) × (refersAt o i ≡ true) × (i < size o)
-names-refer (aRecord l cells) t its-layout = (1, refl, omega arith)
-names-refer (aRecord l cells) t (its-field i e) = (suc (suc i), ap cellRefers e, (let b : i < length cells = elim (cases-lt i (length cells)) [ inl x ↦ x | inr x ↦ absurd (none (sym (getD-past cells i (raw 0) x) ∙ e)) ] in omega arith))
-  where
-    none : raw 0 ≡ value (object t) → ⊥
-    none z = false≢true (ap cellRefers z)
-names-refer (aLayout c n) t its-map = (2, refl, omega arith)
-names-refer (aMap r n p) t its-name = (2, refl, omega arith)
-names-refer (aMap r n p) t its-parent = (3, refl, omega arith)
-
-names-word : (o : Object) (t : ℕ) (n : Names o t) (ref : ℕ → ℕ) (mark : Bool) → getD (objectWords ref mark o) (names-refer o t n .0) 0 ≡ ref t
-names-word (aRecord l cells) t its-layout ref mark = refl
-names-word (aRecord l cells) t (its-field i e) ref mark =
-    let b : i < length cells = elim (cases-lt i (length cells)) [ inl x ↦ x | inr x ↦ absurd (none (sym (getD-past cells i (raw 0) x) ∙ e)) ] in
-    getD-map (fieldWord ref) cells i (raw 0) 0 b ∙ ap (fieldWord ref) e
-  where
-    none : raw 0 ≡ value (object t) → ⊥
-    none z = false≢true (ap cellRefers z)
-names-word (aLayout c n) t its-map ref mark = refl
-names-word (aMap r n p) t its-name ref mark = refl
-names-word (aMap r n p) t its-parent ref mark = refl
 
 module _ (m : Meaning) (W : ℕ) (g : Graph) (s : List Bool) (snd : Sound m W g s) (lim : W ≤ 16384) (rest : List ℕ) where
   abbrev P : Plan
@@ -261,7 +239,7 @@ begins m W low high ws hs us is vs gs q r t none room bare k1 roots k2 settled g
     let im =
     marked-image m W g s snd lim rest (reachable g) vs gs (done .is) marks (k2 .length ∙ k1 .length ∙ sym len)
     (k2 .many ∙ k1 .many ∙ ap length (rests .handle-words) ∙ length-map (g .handles) (valueWord (reference W g s)) ∙ snd .handles-32)
-    (λ i l. k2 .past i l ∙ k1 .past i l ∙ ap (λ (x : List ℕ). getD x i 0) whole ∙ rest-at m W g s s (keeps-all m W g s snd lim) rest s [] (snd .fits) i (omega arith)) in
+    (λ i l. k2 .past i l ∙ k1 .past i l ∙ ap (λ (x : List ℕ). getD x i 0) whole ∙ rest-at W g rest s [] (snd .fits) i (omega arith)) in
     let sc = sound-collects m W g s snd in
     let stand : (p : ℕ) → getD (reachable g) p false ≡ true → getD s p false ≡ true = λ p e. reach-stands m W g s snd lim rest p (reachable-sound g p e) in
     record {
@@ -298,5 +276,5 @@ gives-up W low high vs gs us is ts js u1 k1 u2 k2 m g s k ws hs rests begun =
     let im =
     marked-image m W g s snd lim rest [] ts js (f2 .is) (λ q e. off (placeOf W g s q)) (k2 .length ∙ k1 .length ∙ sym len)
     (k2 .many ∙ k1 .many ∙ ap length (begun .handle-words) ∙ length-map (g .handles) (valueWord (reference W g s)) ∙ snd .handles-32)
-    (λ i l. k2 .past i l ∙ k1 .past i l ∙ ap (λ (x : List ℕ). getD x i 0) (begun .memory) ∙ rest-at m W g s s (keeps-all m W g s snd lim) rest s k (snd .fits) i (omega arith)) in
+    (λ i l. k2 .past i l ∙ k1 .past i l ∙ ap (λ (x : List ℕ). getD x i 0) (begun .memory) ∙ rest-at W g rest s k (snd .fits) i (omega arith)) in
     (im .0 ∙ sym (rest-words m W g s ws hs rests), im .1 ∙ sym (rests .handle-words))

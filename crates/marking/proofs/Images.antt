@@ -19,11 +19,11 @@ use Rattle.graph.proofs.Piles.{total-le}
 use Rattle.graph.proofs.Frame.{total-sides, size-pos, length-image, read-word}
 use Rattle.space.specs.Weave.{view}
 use Rattle.space.specs.Pass.{Plan, Planned, Here}
-use Rattle.space.specs.Layout.{Keeps, owner, records, classes, turnOf, headOf, plan}
-use Rattle.space.proofs.Owners.{In, below-many, owner-in, owned-by, record-place, class-place, turn-bounds}
+use Rattle.graph.specs.Places.{owner, records, classes, turnOf}
+use Rattle.space.specs.Layout.{Keeps, headOf, plan}
+use Rattle.graph.proofs.Places.{word-in, cover, covered, zero-at, rest-at, In, below-many, owner-in, owned-by, record-place, class-place, turn-bounds}
 use Rattle.space.proofs.Plans.{ends, head-word, owner-place, head-of, head-at, here-at, planned, plan-handles}
 use Rattle.space.proofs.Courses.{records-course, classes-course, sides-fit}
-use Rattle.space.proofs.Finals.{cover, covered, zero-at, rest-at}
 use Rattle.marking.specs.Marks.{Standing, Sides, Marked, marked}
 use Rattle.marking.proofs.Steps.{plain, full, lacks as unmarked-lacks}
 
@@ -96,13 +96,13 @@ module _ (m : Meaning) (W : ℕ) (g : Graph) (s : List Bool) (snd : Sound m W g 
   unowned : (mk : List Bool) (a : ℕ) → owner W g s (length (g .objects)) a ≡ 0 → getD (image W g s mk ++ rest) a 0 ≡ getD (image W g s s ++ rest) a 0
   unowned mk a e =
       elim (cases-lt a W) [
-        | inr l ↦ rest-at m W g s s kp rest s mk (snd .fits) a l ∙ sym (rest-at m W g s s kp rest s s (snd .fits) a l)
+        | inr l ↦ rest-at W g rest s mk (snd .fits) a l ∙ sym (rest-at W g rest s s (snd .fits) a l)
         | inl l ↦
             let N = length (g .objects) in
             let fit = sides-fit m W g s s kp rest in
             let low : lowEnd g s ≤ a = elim (cases-lt a (lowEnd g s)) [ inl b ↦ absurd (no-record b) | inr b ↦ b ] in
             let high : a < highEnd W g s = elim (cases-lt a (highEnd W g s)) [ inl b ↦ b | inr b ↦ absurd (no-class l b) ] in
-            zero-at m W g s s kp rest s mk (snd .fits) a low high ∙ sym (zero-at m W g s s kp rest s s (snd .fits) a low high)
+            zero-at W g rest s mk (snd .fits) a low high ∙ sym (zero-at W g rest s s (snd .fits) a low high)
       ]
     where
       owned : (q : ℕ) → getD s q false ≡ true → placeOf W g s q ≤ a → a < placeOf W g s q + size (objectAt g q) → ⊥
@@ -135,11 +135,6 @@ module _ (m : Meaning) (W : ℕ) (g : Graph) (s : List Bool) (snd : Sound m W g 
           let fit = sides-fit m W g s s kp rest in
           owned q (y .0) (omega (arith, p, c .from, c .to, sk)) (omega (arith, p, c .from, c .to, sk))
 
-  word-in : (mk : List Bool) (q i : ℕ) → getD s q false ≡ true → i < size (objectAt g q) → getD (image W g s mk ++ rest) (placeOf W g s q + i) 0 ≡ getD (wordsAt W g s mk q) i 0
-  word-in mk q i st l =
-      getD-append-left (image W g s mk) rest 0 (placeOf W g s q + i) (omega (arith, length-image W g s mk (snd .fits), ends m W g s s kp rest q st))
-      ∙ read-word W g s mk (snd .fits) q (below-many W g s (snd .fits) (snd .as-long) q st) st i l
-
   -- the words at rest with the marks mk
   module _ (mk : List Bool) where
     abbrev pub look : ℕ → ℕ
@@ -149,7 +144,7 @@ module _ (m : Meaning) (W : ℕ) (g : Graph) (s : List Bool) (snd : Sound m W g 
     header-in q st =
         view-low (image W g s mk ++ rest) (handleWords W g s) (placeOf W g s q) (omega (arith, lim, ends m W g s s kp rest q st, size-pos (objectAt g q)))
         ∙ ap (λ (p : ℕ). getD (image W g s mk ++ rest) p 0) (sym (add-zero (placeOf W g s q)))
-        ∙ word-in mk q 0 st (size-pos (objectAt g q))
+        ∙ word-in W g s (snd .fits) (snd .as-long) mk rest q 0 st (size-pos (objectAt g q))
 
     pub image-marked : Marked P look
     image-marked a =
@@ -184,9 +179,9 @@ module _ (m : Meaning) (W : ℕ) (g : Graph) (s : List Bool) (snd : Sound m W g 
                   inl (
                   view-low (image W g s mk ++ rest) (handleWords W g s) a l
                   ∙ ap (λ (p : ℕ). getD (image W g s mk ++ rest) p 0) (sym at)
-                  ∙ word-in mk q i st li
+                  ∙ word-in W g s (snd .fits) (snd .as-long) mk rest q i st li
                   ∙ behind (reference W g s) (getD mk q false) (getD s q false) (objectAt g q) i (λ z. ne (omega (arith, z, x .from)))
-                  ∙ sym (word-in s q i st li)
+                  ∙ sym (word-in W g s (snd .fits) (snd .as-long) s rest q i st li)
                   ∙ ap (λ (p : ℕ). getD (image W g s s ++ rest) p 0) at
                   ∙ sym (view-low (image W g s s ++ rest) (handleWords W g s) a l)
                   )
@@ -225,7 +220,7 @@ module _ (m : Meaning) (W : ℕ) (g : Graph) (s : List Bool) (snd : Sound m W g 
     ext-getD 0 vs (image W g s mk ++ rest) (many ∙ sym (length-append (image W g s mk) rest ∙ ap (λ (n : ℕ). n + length rest) (length-image W g s mk (snd .fits))))
         (λ i l. elim (cases-lt i 16384) [
           | inl h ↦ sym (view-low vs gs i h) ∙ same i ∙ view-low (image W g s mk ++ rest) (handleWords W g s) i h
-          | inr h ↦ past i h ∙ sym (rest-at m W g s s kp rest s mk (snd .fits) i (omega arith))
+          | inr h ↦ past i h ∙ sym (rest-at W g rest s mk (snd .fits) i (omega arith))
         ]),
     ext-getD 0 gs (handleWords W g s) (roots ∙ sym (length-map (g .handles) (valueWord (reference W g s)) ∙ snd .handles-32))
         (λ h l.

@@ -11,7 +11,8 @@ use Rattle.std.proofs.shelf.Tests.{both-ways, and-from, le-leb, lt-leb, le-ltb,
 use Rattle.std.proofs.shelf.Ways.{tells}
 use Rattle.scheme.specs.Meaning.{Meaning}
 use Rattle.space.specs.Weave.{view, inside}
-use Rattle.space.specs.Pass.{Plan, Planned, refers}
+use Rattle.graph.specs.Places.{refers}
+use Rattle.space.specs.Pass.{Plan, Planned}
 use Rattle.marking.specs.declared.Pending.{Pending}
 use Rattle.marking.specs.Marks.{Standing, Marked, marked, Reaches, by-handle, by-object, live, unmarked, Stage, stage, Going, nothing, after, MarkedAt, Done}
 use Rattle.marking.proofs.Totals.{total-none}

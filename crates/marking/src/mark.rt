@@ -25,7 +25,8 @@ impl Pending {
         if header % 4 == 1 {
             space.store(place, header + 2);
             self.live = self.live.wrapping_add(header / 16);
-            if self.count < 64 {
+            let room = self.count < 64;
+            if room {
                 self.places[self.count as usize] = place;
                 self.count += 1;
             } else {

@@ -20,12 +20,13 @@ use Rattle.graph.proofs.Frame.{total-sides, size-pos, length-image, read-word, 
 use Rattle.graph.proofs.Sound.{stands-below}
 use Rattle.graph.proofs.Laws.{references-read, headers-read, record-counts, class-counts}
 use Rattle.space.specs.Collect.{Base}
-use Rattle.space.proofs.Owners.{below-many, owned-by, record-place, class-place}
+use Rattle.graph.proofs.Places.{word-in, zero-at, rest-at, below-many, owned-by, record-place, class-place}
 use Rattle.space.specs.Weave.{view, renewed}
 use Rattle.space.specs.Weave.{reference as refer}
 use Rattle.space.specs.Pass.{Plan, renew, unmarkedAt}
-use Rattle.space.specs.Layout.{Keeps, isObject, refersAt, owner, slotOf, plan}
-use Rattle.space.proofs.Fields.{refers-to, refers-not-0, plain-word}
+use Rattle.graph.specs.Places.{isObject, refersAt, owner}
+use Rattle.space.specs.Layout.{Keeps, slotOf, plan}
+use Rattle.graph.proofs.Slots.{refers-to, refers-not-0, plain-word}
 use Rattle.space.proofs.Plans.{word-at, head-word, handle-at, slot-at, new-at, owner-past, high-reference, kind-four}
 use Rattle.space.proofs.Courses.{total-fewer, cond-less}
 
@@ -45,25 +46,6 @@ kept-sound m W g s k kp =
       numbers = so .numbers;
     }
 
--- an address within a pile belongs to one of its blocks
-pub record Covers (f : ℕ → ℕ) (n a : ℕ) : Type 0 where
-  pub at : ℕ
-  pub below : at < n
-  pub from : total f at ≤ a
-  pub to : a < total f at + f at
-
-pub cover : (f : ℕ → ℕ) (n a : ℕ) → a < total f n → Covers f n a
-cover f zero a l = absurd (omega arith)
-cover f (suc n) a l = go (cases-lt a (total f n)) (λ h. cover f n a h)
-  where
-    go : (a < total f n) ⊎ (total f n ≤ a) → (a < total f n → Covers f n a) → Covers f (suc n) a
-    go (inl h) r = let x = r h in record { at = x .at; below = omega (arith, x .below); from = x .from; to = x .to }
-    go (inr h) r = record { at = n; below = omega arith; from = h; to = l }
-
-pub covered : (b : Bool) (n x : ℕ) → x < cond b n 0 → b ≡ true
-covered true n x h = refl
-covered false n x h = absurd (omega arith)
-
 tag-of : (o : Object) → cond (eqb (headerKind o) 0) 2 3 ≡ cond (isRecord o) 2 (3 + 0)
 tag-of (aRecord l cells) = refl
 tag-of (aLayout c n) = refl
@@ -78,26 +60,7 @@ module _ (m : Meaning) (W : ℕ) (g : Graph) (s k : List Bool) (kp : Keeps m W g
 
   -- the words of the packed image
   pub final-at : (q i : ℕ) → getD k q false ≡ true → i < size (objectAt g q) → placeOf W g k q + i < W → getD (image W g k [] ++ rest) (placeOf W g k q + i) 0 ≡ getD (objectWords (reference W g k) false (objectAt g q)) i 0
-  final-at q i e l lw =
-      getD-append-left (image W g k []) rest 0 (placeOf W g k q + i) (omega (arith, length-image W g k [] fits-k))
-      ∙ read-word W g k [] fits-k q (omega (arith, stands-below k q e, kp .as-long)) e i l
-
-  pub zero-at : (k m : List Bool) → wordsOf g k ≤ W → (a : ℕ) → lowEnd g k ≤ a → a < highEnd W g k → getD (image W g k m ++ rest) a 0 ≡ 0
-  zero-at k m fit a x y =
-      let n = length (g .objects) in
-      let up = upward (recordWords W g k m) n in
-      let down = downward (classWords W g k m) n in
-      let lu = length-upward (recordWords W g k m) (recordSize g k) (length-recordWords W g k m) n in
-      let z = length-replicate {A = ℕ} (between W g k) 0 in
-      let sides = total-sides g k n in
-      let room : a - lowEnd g k < between W g k = omega arith in
-      getD-append-left (image W g k m) rest 0 a (omega (arith, length-image W g k m fit))
-      ∙ getD-append-right up (replicate (between W g k) 0 ++ down) (lowEnd g k) a 0 lu x
-      ∙ getD-append-left (replicate (between W g k) 0) down 0 (a - lowEnd g k) (omega (arith, z))
-      ∙ getD-replicate {A = ℕ} (between W g k) (a - lowEnd g k) 0 0 room
-
-  pub rest-at : (s′ k′ : List Bool) → wordsOf g s′ ≤ W → (a : ℕ) → W ≤ a → getD (image W g s′ k′ ++ rest) a 0 ≡ getD rest (a - W) 0
-  rest-at s′ k′ f a l = getD-append-right (image W g s′ k′) rest W a 0 (length-image W g s′ k′ f) l
+  final-at q i e l lw = word-in W g k fits-k (kp .as-long) [] rest q i e l
 
   -- a renewed reference
   pub renewed-ref : (t w : ℕ) → w ≡ reference W g s t → getD k t false ≡ true → renewed (plan W g s k rest .new) (plan W g s k rest .words) (w / 4) ≡ reference W g k t
@@ -158,7 +121,7 @@ module _ (m : Meaning) (W : ℕ) (g : Graph) (s k : List Bool) (kp : Keeps m W g
   renew-past a x y =
       cond-false _ _ _ (ap (λ o. slotOf W g s k o a) (owner-past m W g s k kp rest a x) ∙ and-left _ _ (low a y))
       ∙ cond-true _ _ _ (lt-ltb a 16384 y)
-      ∙ rest-at s k (kp .sound .fits) a x
+      ∙ rest-at W g rest s k (kp .sound .fits) a x
     where
       low : (a : ℕ) → a < 16384 → leb 16384 a ≡ false
       low a l = lt-leb′ 16384 a l
@@ -194,7 +157,7 @@ module _ (m : Meaning) (W : ℕ) (g : Graph) (s k : List Bool) (kp : Keeps m W g
       let low : a < 16384 = omega arith in
       cond-false _ _ _ (go (owner W g s (length (g .objects)) a) refl low)
       ∙ cond-true _ _ _ (lt-ltb a 16384 low)
-      ∙ zero-at s k (kp .sound .fits) a x y
+      ∙ zero-at W g rest s k (kp .sound .fits) a x y
     where
       go : (o : ℕ) → owner W g s (length (g .objects)) a ≡ o → a < 16384 → slotOf W g s k o a ≡ false
       go zero e l = and-left _ _ (lt-leb 16384 a l)

@@ -23,10 +23,12 @@ use Rattle.graph.proofs.Frame.{size-pos, length-image, read-word}
 use Rattle.graph.proofs.Laws.{numbers-encoded, references-read, headers-read}
 use Rattle.graph.proofs.Rests.{place-fits}
 use Rattle.space.specs.Weave.{view, inside}
-use Rattle.space.specs.Pass.{Plan, Planned, Slot, Here, Ruled, Quiet, Handles, refers, valueAt}
-use Rattle.space.specs.Layout.{Keeps, isObject, cellRefers, refersAt, has, owner, records, classes, turnOf, rankOf, headOf, slotOf, newOf, plan}
-use Rattle.space.proofs.Owners.{In, below-many, owner-in, owned-by, owner-at, turn-bounds, one-turn, ranked-by, record-turn, class-turn}
-use Rattle.space.proofs.Fields.{mapOf, ruleOf, refers-value, refers-to, refers-not-0, value-at}
+use Rattle.graph.specs.Places.{refers, valueAt}
+use Rattle.space.specs.Pass.{Plan, Planned, Slot, Here, Ruled, Quiet, Handles}
+use Rattle.graph.specs.Places.{isObject, cellRefers, refersAt, owner, records, classes, turnOf, rankOf}
+use Rattle.space.specs.Layout.{Keeps, headOf, slotOf, newOf, plan}
+use Rattle.graph.proofs.Places.{word-in, In, below-many, owner-in, owned-by, owner-at, turn-bounds, one-turn, ranked-by, record-turn, class-turn}
+use Rattle.graph.proofs.Slots.{mapOf, ruleOf, refers-value, refers-to, refers-not-0, value-at}
 
 inside-word : (n a : ℕ) → a < n → a < 16384 → inside n a ≡ true
 inside-word n a h k = grind (arith, tells)
@@ -76,8 +78,7 @@ module _ (m : Meaning) (W : ℕ) (g : Graph) (s k : List Bool) (kp : Keeps m W g
       let b = ends q e in
       let lim = kp .limit in
       cond-true _ _ _ (lt-ltb (placeOf W g s q + i) 16384 (omega arith))
-      ∙ getD-append-left (image W g s k) rest 0 (placeOf W g s q + i) (omega (arith, length-image W g s k fits))
-      ∙ read-word W g s k fits q (below-many W g s fits long q e) e i l
+      ∙ word-in W g s fits long k rest q i e l
 
   pub head-word : (q : ℕ) → getD s q false ≡ true → plan W g s k rest .words (placeOf W g s q) ≡ header (getD k q false) (headerKind (objectAt g q)) (size (objectAt g q))
   head-word q e = ap (plan W g s k rest .words) (sym (add-zero (placeOf W g s q))) ∙ word-at q 0 e (size-pos (objectAt g q))

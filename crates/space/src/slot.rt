@@ -2,7 +2,8 @@
 ghost use mathlib.Core.Path.{_≡_};
 ghost use Prim.Native.Nat.{_<_};
 ghost use Rattle.space.specs.Weave.{view};
-ghost use Rattle.space.specs.Pass.{valueAt, ruleAt};
+ghost use Rattle.graph.specs.Places.{valueAt};
+ghost use Rattle.space.specs.Pass.{ruleAt};
 use crate::Space;
 use crate::WORDS;
 use memory::Memory;

@@ -1,24 +1,25 @@
 -- Which words of an object are references, by its kind and rule and by the words.
 use mathlib.Core.Path.{_≡_, refl, sym, ap, ap₂, subst, _∙_}
 use mathlib.Core.Bool.{Bool, true, false, cond, not, _&&_, _||_}
+use mathlib.Core.Logic.{_⊎_, inl, inr}
 use mathlib.Core.List.{List, [], _∷_, _++_, map}
 use Prim.Native.Nat.{ℕ, zero, suc, _+_, _-_, _*_, _/_, _%_, _<_, _≤_}
 use native.Mathlib.Omega.{arith}
 use lib.Dec.{eqb, ltb, leb}
 use lib.IntN.{ℤ}
 use lib.ListN.{length, getD}
-use Rattle.std.proofs.shelf.Tests.{both-ways, false≢true, true≢false, and-parts, cond-true, cond-false, ne-eqb, le-leb, lt-leb, eqb-true, cases-eq}
-use Rattle.std.proofs.shelf.Lists.{getD-map, length-map}
+use Rattle.std.proofs.shelf.Tests.{both-ways, false≢true, true≢false, and-parts, cond-true, cond-false, ne-eqb, le-leb, lt-leb, eqb-true, cases-eq, cases-lt}
+use Rattle.std.proofs.shelf.Lists.{getD-map, getD-past, length-map}
 use Rattle.std.proofs.shelf.Ways.{tells}
 use Rattle.scheme.specs.Meaning.{Meaning, isRaw}
 use Rattle.graph.specs.Graph.{Value, empty, number, object, Cell, raw, value, Object, aRecord, aLayout, aMap, Graph, objectAt, size, isRecord}
 use Rattle.graph.specs.Reach.{Names, its-layout, its-field, its-map, its-name, its-parent}
 use Rattle.graph.specs.Step.{objectKind, figureOf, rawCell, inRange}
 use Rattle.graph.specs.Words.{headerKind, valueWord, fieldWord, objectWords}
 use Rattle.graph.specs.Sound.{Contains, in-field, as-name, as-parent, FieldsOf, Formed}
 use Rattle.graph.proofs.Laws.{numbers-encoded}
-use Rattle.space.specs.Pass.{refers, valueAt}
-use Rattle.space.specs.Layout.{isObject, cellRefers, refersAt}
+use Rattle.graph.specs.Places.{refers, valueAt}
+use Rattle.graph.specs.Places.{isObject, cellRefers, refersAt}
 
 abbrev pub mapOf : Object → ℕ
 mapOf (aRecord l cells) = 0
@@ -157,3 +158,26 @@ module _ (ref : ℕ → ℕ) (high : (t : ℕ) → refers (ref t) ≡ true) wher
     value-at mark (aMap r n p) f z (suc (suc (suc zero))) a h = sym (refers-value p (λ x e. z x (subst (λ (v : Value). Contains (aMap r n p) v) e as-parent)))
     value-at mark (aMap r n p) f z (suc (suc (suc (suc zero)))) a h = refl
     value-at mark (aMap r n p) f z (suc (suc (suc (suc (suc i))))) a h = absurd (omega arith)
+
+-- what an object names stands in one of its reference slots
+abbrev pub names-refer : (o : Object) (t : ℕ) → Names o t → (i : ℕ) × (refersAt o i ≡ true) × (i < size o)
+names-refer (aRecord l cells) t its-layout = (1, refl, omega arith)
+names-refer (aRecord l cells) t (its-field i e) = (suc (suc i), ap cellRefers e, (let b : i < length cells = elim (cases-lt i (length cells)) [ inl x ↦ x | inr x ↦ absurd (none (sym (getD-past cells i (raw 0) x) ∙ e)) ] in omega arith))
+  where
+    none : raw 0 ≡ value (object t) → ⊥
+    none z = false≢true (ap cellRefers z)
+names-refer (aLayout c n) t its-map = (2, refl, omega arith)
+names-refer (aMap r n p) t its-name = (2, refl, omega arith)
+names-refer (aMap r n p) t its-parent = (3, refl, omega arith)
+
+pub names-word : (o : Object) (t : ℕ) (n : Names o t) (ref : ℕ → ℕ) (mark : Bool) → getD (objectWords ref mark o) (names-refer o t n .0) 0 ≡ ref t
+names-word (aRecord l cells) t its-layout ref mark = refl
+names-word (aRecord l cells) t (its-field i e) ref mark =
+    let b : i < length cells = elim (cases-lt i (length cells)) [ inl x ↦ x | inr x ↦ absurd (none (sym (getD-past cells i (raw 0) x) ∙ e)) ] in
+    getD-map (fieldWord ref) cells i (raw 0) 0 b ∙ ap (fieldWord ref) e
+  where
+    none : raw 0 ≡ value (object t) → ⊥
+    none z = false≢true (ap cellRefers z)
+names-word (aLayout c n) t its-map ref mark = refl
+names-word (aMap r n p) t its-name ref mark = refl
+names-word (aMap r n p) t its-parent ref mark = refl
