@@ -11,3 +11,4 @@ pub mod Laws
 pub mod Rests
 pub mod Runs
 pub mod Sliding
+pub mod Altered

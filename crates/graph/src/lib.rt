@@ -4,6 +4,8 @@ ghost use Rattle.graph.specs.Numbers.{refusalNumber, refusalPosition, kindNumb
 
 mod theorems;
 
+pub use theorems::alterations_stand;
+pub use theorems::collections_unnoticed;
 pub use theorems::laws_stand;
 pub use theorems::reachability_stands;
 pub use theorems::sliding_stands;

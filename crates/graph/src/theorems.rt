@@ -51,3 +51,21 @@ pub fn sliding_stands() -> u8
 {
     0
 }
+
+ghost use Rattle.graph.specs.Altered.{Calls-alter};
+ghost use Rattle.graph.specs.Runs.{Collections-unnoticed};
+
+/// Which words each call alters: those that are named for it and no others; refusal 31 and a collection leave the packed words, and a
+/// making call that collected leaves those with the new object innermost.
+pub fn alterations_stand() -> u8
+    ensures { λ _. ⌜ Calls-alter ⌝ }
+{
+    0
+}
+
+/// Lists of calls that differ only in their collections have the same answers to all other calls.
+pub fn collections_unnoticed() -> u8
+    ensures { λ _. ⌜ Collections-unnoticed ⌝ }
+{
+    0
+}

@@ -90,10 +90,9 @@ returns g c =
       packed = λ front last e p.
           let last-is = packs-last M W calls front last e p in
           let whole = subst (λ (t : List Bool). Stands M v (run M W calls bare .1) t) (last-is .1) standing in
-          let graph = run M W calls bare .1 in
-          (
+          let graph = run M W calls bare .1 in (
             ap (λ (k : ℕ). take k (words (h .space .memory))) (sym limit) ∙ whole .rests .memory ∙ ap (λ (k : ℕ). packed k graph) limit,
-            whole .rests .handle-words ∙ ap (λ (k : ℕ). packedHandles k graph) limit
+            whole .rests .handle-words ∙ ap (λ (k : ℕ). packedHandles k graph) limit,
           );
       unnoticed = λ other e. others-agree M W other calls bare e ∙ ap (toOthers calls) (sym told);
     }
