@@ -13,13 +13,13 @@ ghost use Rattle.heap.specs.Effects.{partOffset};
 ghost use Rattle.heap.specs.Views.{view, Stands, Means};
 ghost use Rattle.heap.specs.Checks.{Sifts, mapOf, isKind, isParent, isObject, hasField, isSort};
 use crate::Heap;
+use codec::header;
+use codec::value;
 use graph::Kind;
 use graph::KindPartialEq;
 use graph::Refusal;
 use memory::Memory;
 use scheme::Scheme;
-use words::header;
-use words::value;
 
 /// A handle's number is at most 31.
 pub(crate) fn check_handle(h: u32, at: u8) -> Result<(), Refusal>

@@ -9,11 +9,11 @@ ghost use Rattle.heap.specs.Views.{view, Meets, outcomeOf, nothing, truth};
 use crate::Heap;
 use crate::checks::check_handle;
 use crate::checks::check_number;
+use codec::value;
 use graph::Kind;
 use graph::Refusal;
 use memory::Memory;
 use scheme::Scheme;
-use words::value;
 
 impl<M: Memory, S: Scheme> Heap<M, S> {
     /// The handle becomes the number.

@@ -9,13 +9,13 @@ ghost use Rattle.heap.specs.Views.{view, Meets, Rooms, outcomeOf, nothing};
 use crate::Heap;
 use crate::checks::check_fields;
 use crate::checks::check_handle;
+use codec::header::Shape;
+use codec::header::header_of;
+use codec::value;
 use graph::Kind;
 use graph::Refusal;
 use memory::Memory;
 use scheme::Scheme;
-use words::header::Shape;
-use words::header::header_of;
-use words::value;
 
 /// How many words a map takes, and a layout.
 const MAP_WORDS: u32 = 5;

@@ -4,7 +4,7 @@ ghost use mathlib.Core.Bool.{Bool, false, cond};
 ghost use Prim.Native.Nat.{ℕ, _+_, _-_, _*_, _/_, _%_, _<_, _≤_};
 ghost use lib.Dec.{eqb};
 ghost use Rattle.graph.specs.Words.{header};
-ghost use Rattle.words.specs.Kinds.{shapeNumber};
+ghost use Rattle.codec.specs.Kinds.{shapeNumber};
 
 /// What kind of object a header stands before.
 #[derive(Clone, Copy, PartialEq, Eq, Debug)]

@@ -9,7 +9,7 @@ use Rattle.std.proofs.shelf.Signed.{ints}
 use Rattle.std.proofs.shelf.Tests.{le-ltb, cond-false}
 use Rattle.graph.specs.Laws.{wordNumber}
 use Rattle.graph.proofs.Laws.{numbers-encoded}
-use Rattle.words.proofs.value.decode.Needs as need
+use Rattle.codec.proofs.value.decode.Needs as need
 
 -- a word with its highest bit set holds a negative number
 pub returns-else-word-lt2147483648 : need.returns-else-word-lt2147483648
