@@ -1,13 +1,13 @@
--- The name line. Assumes nothing.
+-- The name line.
 use mathlib.Core.Path.{_≡_}
 use mathlib.Core.List.{List, []}
 use Prim.Native.Nat.{ℕ}
 use lib.Chars.{codes}
 use lib.ListN.{getD}
+use Rattle.lexer.specs.Pieces.{pieces, Shaped}
 use Rattle.load.specs.declared.names.Columns.{Columns}
-use Rattle.load.specs.Pieces.{pieces, Shaped}
 
--- the line is the five names, and each stands in its column
+-- the line is the five names, and each stands at its place
 pub record Named (c : Columns) (line : List ℕ) : Type 0 where
   pub shaped : Shaped line
   pub at-call : getD (pieces line) (c .call) [] ≡ codes "call"

@@ -1,8 +1,3 @@
-// The load text: lines, values, call words, and where each is stopped.
+// The load text: which call a line gives, or what is wrong with it.
 pub mod calls;
-pub mod faults;
 pub mod names;
-pub mod lines;
-pub mod numbers;
-pub mod tokens;
-pub mod words;

@@ -1,16 +1,19 @@
-// The name line: which column each name has.
+// The name line: at which place of a line each name's value stands.
 ghost use mathlib.Core.Path.{_≡_};
 ghost use mathlib.Core.List.{List, []};
 ghost use Prim.Native.Nat.{ℕ, _<_};
 ghost use lib.ListN.{getD};
+ghost use Rattle.std.specs.Orderings.{Decides};
 ghost use Rattle.std.specs.Results.{Cases};
-ghost use Rattle.load.specs.Pieces.{held};
+ghost use Rattle.lexer.specs.Tokens.{word, said, held};
+ghost use Rattle.lexer.specs.declared.faults.TextFault.the-variants.{NoNames};
 ghost use Rattle.load.specs.Names.{Named};
-ghost use Rattle.load.specs.declared.faults.TextFault.the-variants.{Names};
-use crate::faults::TextFault;
-use crate::lines::Values;
-use crate::lines::values_of;
+use lexer::faults::TextFault;
+use lexer::tokens::Token;
+use lexer::tokens::Tokens;
+use lexer::tokens::tokens_of;
 
+/// The place of each name, from 0.
 #[derive(Clone, Copy)]
 pub struct Columns {
     pub call: u8,
@@ -20,28 +23,38 @@ pub struct Columns {
     pub d: u8,
 }
 
-// The place of the first value that is `name`.
-fn place_of(values: Values<'_>, name: &[u8]) -> Result<u8, TextFault>
-    ensures { λ r. ⌜ Cases r (λ p. (p < 5) × (getD (held (values .entry)) p [] ≡ now (name .entry))) (λ f. (f ≡ Names) × ((k : ℕ) → k < 5 → getD (held (values .entry)) k [] ≡ now (name .entry) → ⊥)) ⌝ }
+fn is_word(token: Token<'_>, name: &[u8]) -> bool
+    ensures { λ r. ⌜ Decides r (said (token .entry) ≡ word (now (name .entry))) ⌝ }
+{
+    match token {
+        Token::Word(bytes) => bytes == name,
+        _ => false,
+    }
+}
+
+// The first place that holds the name.
+fn place_of(tokens: Tokens<'_>, name: &[u8]) -> Result<u8, TextFault>
+    ensures { λ r. ⌜ Cases r (λ p. (p < 5) × (getD (held (tokens .entry)) p (word []) ≡ word (now (name .entry)))) (λ f. (f ≡ NoNames) × ((k : ℕ) → k < 5 → getD (held (tokens .entry)) k (word []) ≡ word (now (name .entry)) → ⊥)) ⌝ }
 {
     for place in 0..5 {
-        if values.at(place) == name {
+        if is_word(tokens.at(place), name) {
             return Ok(place);
         }
     }
-    Err(TextFault::Names)
+    Err(TextFault::NoNames)
 }
 
+/// The columns, where the line is the five names, each once, in any order.
 pub fn columns_of(line: &[u8]) -> Result<Columns, TextFault>
-    ensures { λ r. ⌜ Cases r (λ c. Named c (now (line .entry))) (λ f. (f ≡ Names) × ((c : Columns) → Named c (now (line .entry)) → ⊥)) ⌝ }
+    ensures { λ r. ⌜ Cases r (λ c. Named c (now (line .entry))) (λ f. (f ≡ NoNames) × ((c : Columns) → Named c (now (line .entry)) → ⊥)) ⌝ }
 {
-    let Ok(values) = values_of(line) else {
-        return Err(TextFault::Names);
+    let Ok(tokens) = tokens_of(line) else {
+        return Err(TextFault::NoNames);
     };
-    let call = place_of(values, b"call")?;
-    let a = place_of(values, b"a")?;
-    let b = place_of(values, b"b")?;
-    let c = place_of(values, b"c")?;
-    let d = place_of(values, b"d")?;
+    let call = place_of(tokens, b"call")?;
+    let a = place_of(tokens, b"a")?;
+    let b = place_of(tokens, b"b")?;
+    let c = place_of(tokens, b"c")?;
+    let d = place_of(tokens, b"d")?;
     Ok(Columns { call, a, b, c, d })
 }
