@@ -20,7 +20,8 @@ use Rattle.lexer.specs.Pieces.{pieces, Full, full, Shaped, shaped}
 use Rattle.lexer.specs.Tokens.{Lexeme, lexeme}
 use Rattle.words.specs.declared.Word.{Word}
 use Rattle.load.specs.declared.names.Columns.{Columns}
-use Rattle.load.specs.Calls.{andThen, five, call, calledBy, parsed, valueAt, wordSaid}
+use Rattle.load.specs.Steps.{andThen}
+use Rattle.load.specs.Calls.{five, call, calledBy, parsed, valueAt, wordSaid}
 
 pub decides-leb : (a b : ℕ) → Decides (leb a b) (a ≤ b)
 decides-leb a b = grind (arith, tells)

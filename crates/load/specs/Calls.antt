@@ -22,11 +22,7 @@ use Rattle.words.specs.declared.Word.{Word}
 use Rattle.words.specs.declared.Word.the-variants as words
 use Rattle.words.specs.Table.{wordOf}
 use Rattle.load.specs.declared.names.Columns.{Columns}
-
--- a step that may stop, and what follows it
-abbrev pub andThen : {X Y : Type 0} → Result X TextFault → (X → Result Y TextFault) → Result Y TextFault
-andThen (Ok x) k = k x
-andThen (Err e) k = Err e
+use Rattle.load.specs.Steps.{andThen}
 
 -- the arguments are read from a to d
 abbrev pub arg : Lexeme → Argument → Result ℕ TextFault

@@ -1,13 +1,9 @@
 // The name line: at which place of a line each name's value stands.
 ghost use mathlib.Core.Path.{_≡_};
-ghost use mathlib.Core.List.{List, []};
-ghost use Prim.Native.Nat.{ℕ, _<_};
-ghost use lib.ListN.{getD};
-ghost use Rattle.std.specs.Orderings.{Decides};
 ghost use Rattle.std.specs.Results.{Cases};
-ghost use Rattle.lexer.specs.Tokens.{word, said, held};
+ghost use Rattle.lexer.specs.Tokens.{said, held};
 ghost use Rattle.lexer.specs.declared.faults.TextFault.the-variants.{NoNames};
-ghost use Rattle.load.specs.Names.{Named};
+ghost use Rattle.load.specs.Names.{Named, isWord, place, places, columnsIn};
 use lexer::faults::TextFault;
 use lexer::tokens::Token;
 use lexer::tokens::Tokens;
@@ -24,7 +20,7 @@ pub struct Columns {
 }
 
 fn is_word(token: Token<'_>, name: &[u8]) -> bool
-    ensures { λ r. ⌜ Decides r (said (token .entry) ≡ word (now (name .entry))) ⌝ }
+    ensures { λ r. ⌜ r ≡ isWord (now (name .entry)) (said (token .entry)) ⌝ }
 {
     match token {
         Token::Word(bytes) => bytes == name,
@@ -34,7 +30,7 @@ fn is_word(token: Token<'_>, name: &[u8]) -> bool
 
 // The first place that holds the name.
 fn place_of(tokens: Tokens<'_>, name: &[u8]) -> Result<u8, TextFault>
-    ensures { λ r. ⌜ Cases r (λ p. (p < 5) × (getD (held (tokens .entry)) p (word []) ≡ word (now (name .entry)))) (λ f. (f ≡ NoNames) × ((k : ℕ) → k < 5 → getD (held (tokens .entry)) k (word []) ≡ word (now (name .entry)) → ⊥)) ⌝ }
+    ensures { λ r. ⌜ r ≡ place (held (tokens .entry)) (now (name .entry)) ⌝ }
 {
     for place in 0..5 {
         if is_word(tokens.at(place), name) {
@@ -44,17 +40,24 @@ fn place_of(tokens: Tokens<'_>, name: &[u8]) -> Result<u8, TextFault>
     Err(TextFault::NoNames)
 }
 
-/// The columns, where the line is the five names, each once, in any order.
-pub fn columns_of(line: &[u8]) -> Result<Columns, TextFault>
-    ensures { λ r. ⌜ Cases r (λ c. Named c (now (line .entry))) (λ f. (f ≡ NoNames) × ((c : Columns) → Named c (now (line .entry)) → ⊥)) ⌝ }
+fn places_of(tokens: Tokens<'_>) -> Result<Columns, TextFault>
+    ensures { λ r. ⌜ r ≡ places (held (tokens .entry)) ⌝ }
 {
-    let Ok(tokens) = tokens_of(line) else {
-        return Err(TextFault::NoNames);
-    };
     let call = place_of(tokens, b"call")?;
     let a = place_of(tokens, b"a")?;
     let b = place_of(tokens, b"b")?;
     let c = place_of(tokens, b"c")?;
     let d = place_of(tokens, b"d")?;
     Ok(Columns { call, a, b, c, d })
+}
+
+/// The columns, where the line is the five names, each once, in any order. A line over 80 bytes is not.
+pub fn columns_of(line: &[u8]) -> Result<Columns, TextFault>
+    ensures value { λ r. ⌜ r ≡ columnsIn (now (line .entry)) ⌝ }
+    ensures named { λ r. ⌜ Cases r (λ c. Named c (now (line .entry))) (λ f. (f ≡ NoNames) × ((c : Columns) → Named c (now (line .entry)) → ⊥)) ⌝ }
+{
+    let Ok(tokens) = tokens_of(line) else {
+        return Err(TextFault::NoNames);
+    };
+    places_of(tokens)
 }

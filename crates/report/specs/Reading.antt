@@ -1,0 +1,43 @@
+-- The output, read.
+use mathlib.Core.Path.{_≡_}
+use mathlib.Core.Bool.{Bool, true, false, cond}
+use mathlib.Core.List.{List, [], _∷_, map}
+use Prim.Native.Nat.{ℕ, _^_, _<_}
+use lib.Chars.{codes}
+use lib.Dec.{eqb}
+use lib.IntN.{ℤ, pos, negℤ}
+use lib.Signed.{mag}
+use Rattle.std.specs.declared.option.Option.{Option}
+use Rattle.std.specs.declared.option.Option.the-variants.{Some, None}
+use Rattle.std.specs.shelf.Lists.{All}
+use Rattle.std.specs.shelf.Text.{sameBytes}
+use Rattle.lexer.specs.Numbers.{readOn}
+use Rattle.lexer.specs.Pieces.{lines, pieces}
+use Rattle.report.specs.declared.reports.Report.{Report}
+use Rattle.report.specs.Reports.{shownReport, output}
+
+-- the number that a text writes, with or without a minus
+abbrev pub readSigned : List ℕ → ℤ
+readSigned [] = pos 0
+readSigned (x ∷ xs) = cond (eqb x 45) (negℤ (pos (readOn 0 xs))) (pos (readOn 0 (x ∷ xs)))
+
+abbrev pub readValues : List (List ℕ) → Option Report
+readValues (l ∷ s ∷ n ∷ a ∷ []) = Some (record { line = readOn 0 l; ok = sameBytes s (codes "ok"); number = readSigned n; at = readOn 0 a })
+readValues _ = None
+
+-- the report that a line of the output shows
+abbrev pub readReport : List ℕ → Option Report
+readReport line = readValues (pieces line)
+
+-- a report that fits the widths of its parts
+pub record Fits (r : Report) : Type 0 where
+  pub line : r .line < 2 ^ 32
+  pub number : mag (r .number) < 2 ^ 63
+  pub at : r .at < 2 ^ 8
+
+abbrev pub Read-back : Type 0
+Read-back = (r : Report) → Fits r → readReport (shownReport r) ≡ Some r
+
+-- line by line: first the names of the columns, then the reports
+abbrev pub Output-read-back : Type 0
+Output-read-back = (rs : List Report) → All Fits rs → map readReport (lines (output rs)) ≡ None ∷ map Some rs
