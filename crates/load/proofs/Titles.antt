@@ -105,11 +105,11 @@ module _ (line : List ℕ) where
   places-told : Shaped line → Said (places (map lexeme (pieces line)))
   places-told sh =
       next (codes "call") refl (omega arith) (λ c. c .call) (λ _ h. h .at-call) _ (λ k hk.
-        next (codes "a") refl (omega arith) (λ c. c .a) (λ _ h. h .at-a) _ (λ a ha.
-          next (codes "b") refl (omega arith) (λ c. c .b) (λ _ h. h .at-b) _ (λ b hb.
-            next (codes "c") refl (omega arith) (λ c. c .c) (λ _ h. h .at-c) _ (λ c hc.
-              next (codes "d") refl (omega arith) (λ c. c .d) (λ _ h. h .at-d) _ (λ d hd.
-                record { shaped = sh; at-call = hk; at-a = ha; at-b = hb; at-c = hc; at-d = hd })))))
+      next (codes "a") refl (omega arith) (λ c. c .a) (λ _ h. h .at-a) _ (λ a ha.
+      next (codes "b") refl (omega arith) (λ c. c .b) (λ _ h. h .at-b) _ (λ b hb.
+      next (codes "c") refl (omega arith) (λ c. c .c) (λ _ h. h .at-c) _ (λ c hc.
+      next (codes "d") refl (omega arith) (λ c. c .d) (λ _ h. h .at-d) _ (λ d hd.
+      record { shaped = sh; at-call = hk; at-a = ha; at-b = hb; at-c = hc; at-d = hd })))))
 
   names-by : (b : Bool) → shaped line ≡ b → Said (cond b (places (map lexeme (pieces line))) (Err NoNames))
   names-by true e = places-told (decides-shaped line .0 e)

@@ -21,9 +21,16 @@ abbrev pub readSigned : List ℕ → ℤ
 readSigned [] = pos 0
 readSigned (x ∷ xs) = cond (eqb x 45) (negℤ (pos (readOn 0 xs))) (pos (readOn 0 (x ∷ xs)))
 
+abbrev pub readAs : Bool → (l n a : List ℕ) → Report
+readAs granted l n a = record { line = readOn 0 l; ok = granted; number = readSigned n; at = readOn 0 a }
+
 abbrev pub readValues : List (List ℕ) → Option Report
-readValues (l ∷ s ∷ n ∷ a ∷ []) = Some (record { line = readOn 0 l; ok = sameBytes s (codes "ok"); number = readSigned n; at = readOn 0 a })
-readValues _ = None
+readValues [] = None
+readValues (l ∷ []) = None
+readValues (l ∷ s ∷ []) = None
+readValues (l ∷ s ∷ n ∷ []) = None
+readValues (l ∷ s ∷ n ∷ a ∷ []) = cond (sameBytes s (codes "ok")) (Some (readAs true l n a)) (cond (sameBytes s (codes "no")) (Some (readAs false l n a)) None)
+readValues (l ∷ s ∷ n ∷ a ∷ x ∷ xs) = None
 
 -- the report that a line of the output shows
 abbrev pub readReport : List ℕ → Option Report
