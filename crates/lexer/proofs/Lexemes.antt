@@ -11,11 +11,17 @@ use Rattle.std.specs.Holes.{between}
 use denote.Ref.{RefT}
 use Rattle.std.specs.declared.option.Option.{Option}
 use Rattle.std.specs.declared.option.Option.the-variants.{Some, None}
-use Rattle.std.proofs.shelf.Tests.{cond-true, cond-false, ne-eqb, eqb-true}
+use Rattle.std.proofs.shelf.Tests.{cond-true, cond-false, ne-eqb, eqb-true, and-from, le-leb}
+use Rattle.std.proofs.shelf.Ways.{tells}
 use Rattle.lexer.specs.Tokens.{Lexeme, word, number, dash, behindMinus, lexeme, spelt, leftIn}
 use Rattle.lexer.specs.Pieces.{pieces, Full}
 use Rattle.lexer.proofs.Cuts.{pieces-some}
-use Rattle.lexer.proofs.Digits.{digit, other}
+
+pub digit : (b : ℕ) → In 48 57 b → asciiDigit b ≡ true
+digit b h = and-from _ _ (le-leb 48 b (h .0)) (le-leb b 57 (h .1))
+
+pub other : (b : ℕ) → (In 48 57 b → ⊥) → asciiDigit b ≡ false
+other b h = grind (arith, tells)
 
 behind : (ds : List ℕ) → 0 < length ds → behindMinus ds ≡ number true ds
 behind [] some = absurd (omega arith)

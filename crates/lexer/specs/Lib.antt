@@ -1,4 +1,2 @@
-pub mod Faults
 pub mod Pieces
 pub mod Tokens
-pub mod Numbers

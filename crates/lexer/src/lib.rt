@@ -1,5 +1,3 @@
-// The load text, from bytes to values: lines, tokens, the numbers that they write, and where the text is stopped.
-pub mod faults;
+// The load text, from bytes to values: its lines, and the tokens of a line.
 pub mod lines;
-pub mod numbers;
 pub mod tokens;

@@ -7,9 +7,9 @@ ghost use denote.Ref.{now};
 ghost use Rattle.std.specs.Results.{Cases};
 ghost use Rattle.lexer.specs.Pieces.{pieces, Full, Shaped};
 ghost use Rattle.lexer.specs.Tokens.{Lexeme, word, lexeme, spelt, said, left, held};
-ghost use Rattle.lexer.specs.declared.faults.TextFault.the-variants.{NoShape};
-use crate::faults::TextFault;
+ghost use Rattle.faults.specs.declared.TextFault.the-variants.{NoShape};
 use crate::lines::split_once;
+use faults::TextFault;
 
 /// A value of a line, as it was read.
 #[derive(Clone, Copy)]

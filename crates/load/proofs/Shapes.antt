@@ -14,8 +14,8 @@ use Rattle.std.specs.declared.result.Result.the-variants.{Ok, Err}
 use Rattle.std.proofs.shelf.Tests.{cond-true, cond-false, cases-bool}
 use Rattle.std.proofs.shelf.Ways.{decides-and, decides-ltb, decides-eqb, decides-like, tells}
 use Rattle.graph.specs.declared.Call.{Call}
-use Rattle.lexer.specs.declared.faults.TextFault.{TextFault}
-use Rattle.lexer.specs.declared.faults.TextFault.the-variants.{NoShape, NoWord}
+use Rattle.faults.specs.declared.TextFault.{TextFault}
+use Rattle.faults.specs.declared.TextFault.the-variants.{NoShape, NoWord}
 use Rattle.lexer.specs.Pieces.{pieces, Full, full, Shaped, shaped}
 use Rattle.lexer.specs.Tokens.{Lexeme, lexeme}
 use Rattle.words.specs.declared.Word.{Word}

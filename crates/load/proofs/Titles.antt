@@ -19,8 +19,8 @@ use Rattle.std.proofs.shelf.Lists.{getD-past, at-drop-more, at-drop-all}
 use Rattle.std.proofs.shelf.Tests.{cases-lt, cases-bool, cond-true, cond-false, both-ways}
 use Rattle.lexer.specs.Pieces.{pieces, Shaped, shaped}
 use Rattle.lexer.specs.Tokens.{Lexeme, word, number, dash, lexeme, spelt}
-use Rattle.lexer.specs.declared.faults.TextFault.{TextFault}
-use Rattle.lexer.specs.declared.faults.TextFault.the-variants.{NoNames}
+use Rattle.faults.specs.declared.TextFault.{TextFault}
+use Rattle.faults.specs.declared.TextFault.the-variants.{NoNames}
 use Rattle.lexer.proofs.Lexemes.{spelt-lexeme}
 use Rattle.load.specs.declared.names.Columns.{Columns}
 use Rattle.load.specs.Names.{Named, isWord, later, placeIn, place, places, columnsIn}

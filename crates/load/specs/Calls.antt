@@ -11,11 +11,11 @@ use Rattle.std.specs.declared.result.Result.{Result}
 use Rattle.std.specs.declared.result.Result.the-variants.{Ok, Err}
 use Rattle.graph.specs.declared.Call.{Call}
 use Rattle.graph.specs.declared.Call.the-variants as calls
-use Rattle.lexer.specs.declared.faults.Argument.{Argument}
-use Rattle.lexer.specs.declared.faults.Argument.the-variants.{A, B, C, D}
-use Rattle.lexer.specs.declared.faults.TextFault.{TextFault}
-use Rattle.lexer.specs.declared.faults.TextFault.the-variants.{NoShape, NoWord, NoValue}
-use Rattle.lexer.specs.Numbers.{plain, signed, unused}
+use Rattle.faults.specs.declared.Argument.{Argument}
+use Rattle.faults.specs.declared.Argument.the-variants.{A, B, C, D}
+use Rattle.faults.specs.declared.TextFault.{TextFault}
+use Rattle.faults.specs.declared.TextFault.the-variants.{NoShape, NoWord, NoValue}
+use Rattle.numbers.specs.Numbers.{plain, signed, unused}
 use Rattle.lexer.specs.Pieces.{pieces, shaped}
 use Rattle.lexer.specs.Tokens.{Lexeme, word, number, dash, lexeme}
 use Rattle.words.specs.declared.Word.{Word}

@@ -13,8 +13,8 @@ use Rattle.std.specs.declared.result.Result.the-variants.{Ok, Err}
 use Rattle.std.specs.shelf.Text.{sameBytes}
 use Rattle.lexer.specs.Pieces.{pieces, Shaped, shaped}
 use Rattle.lexer.specs.Tokens.{Lexeme, word, number, dash, lexeme}
-use Rattle.lexer.specs.declared.faults.TextFault.{TextFault}
-use Rattle.lexer.specs.declared.faults.TextFault.the-variants.{NoNames}
+use Rattle.faults.specs.declared.TextFault.{TextFault}
+use Rattle.faults.specs.declared.TextFault.the-variants.{NoNames}
 use Rattle.load.specs.declared.names.Columns.{Columns}
 use Rattle.load.specs.Steps.{andThen}
 

@@ -2,17 +2,17 @@
 ghost use mathlib.Core.Path.{_≡_};
 ghost use Rattle.std.specs.Options.{okOr};
 ghost use Rattle.lexer.specs.Tokens.{said};
-ghost use Rattle.lexer.specs.declared.faults.TextFault.the-variants.{NoWord};
+ghost use Rattle.faults.specs.declared.TextFault.the-variants.{NoWord};
 ghost use Rattle.load.specs.Calls.{wordSaid, none, one, two, three, four, call, parsed};
 use crate::names::Columns;
+use faults::Argument;
+use faults::TextFault;
 use graph::Call;
-use lexer::faults::Argument;
-use lexer::faults::TextFault;
-use lexer::numbers::plain_of;
-use lexer::numbers::signed_of;
-use lexer::numbers::unused_of;
 use lexer::tokens::Token;
 use lexer::tokens::tokens_of;
+use numbers::plain_of;
+use numbers::signed_of;
+use numbers::unused_of;
 use words::Word;
 use words::word_of;
 

@@ -2,9 +2,9 @@
 ghost use mathlib.Core.Path.{_≡_};
 ghost use Rattle.std.specs.Results.{Cases};
 ghost use Rattle.lexer.specs.Tokens.{said, held};
-ghost use Rattle.lexer.specs.declared.faults.TextFault.the-variants.{NoNames};
+ghost use Rattle.faults.specs.declared.TextFault.the-variants.{NoNames};
 ghost use Rattle.load.specs.Names.{Named, isWord, place, places, columnsIn};
-use lexer::faults::TextFault;
+use faults::TextFault;
 use lexer::tokens::Token;
 use lexer::tokens::Tokens;
 use lexer::tokens::tokens_of;

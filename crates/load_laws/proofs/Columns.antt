@@ -22,12 +22,12 @@ use Rattle.std.proofs.shelf.Tests.{cond-true, cond-false, eqb-true, eq-eqb, and
 use Rattle.std.proofs.shelf.Ways.{decides-and, decides-or, decides-ltb, decides-like}
 use Rattle.graph.specs.declared.Call.{Call}
 use Rattle.graph.specs.declared.Call.the-variants as calls
-use Rattle.lexer.specs.Numbers.{readOn, numeral, plain, signed, unused}
+use Rattle.numbers.specs.Numbers.{readOn, numeral, plain, signed, unused}
 use Rattle.lexer.specs.Tokens.{Lexeme, word, number, dash, behindMinus, lexeme}
-use Rattle.lexer.specs.declared.faults.Argument.{Argument}
-use Rattle.lexer.specs.declared.faults.Argument.the-variants.{A, B, C, D}
-use Rattle.lexer.specs.declared.faults.TextFault.{TextFault}
-use Rattle.lexer.specs.declared.faults.TextFault.the-variants.{NoShape, NoWord, NoValue}
+use Rattle.faults.specs.declared.Argument.{Argument}
+use Rattle.faults.specs.declared.Argument.the-variants.{A, B, C, D}
+use Rattle.faults.specs.declared.TextFault.{TextFault}
+use Rattle.faults.specs.declared.TextFault.the-variants.{NoShape, NoWord, NoValue}
 use Rattle.load.proofs.Shapes.{decides-leb}
 use Rattle.load.specs.Calls.{none, one, two, three, four, call}
 use Rattle.load.specs.Steps.{andThen}

@@ -22,13 +22,13 @@ use Rattle.std.proofs.shelf.Tests.{cond-true, cond-false, both-ways}
 use Rattle.graph.specs.declared.Call.{Call}
 use Rattle.lexer.proofs.Cuts.{pieces-some}
 use Rattle.lexer.proofs.Lexemes.{spelt-lexeme}
-use Rattle.lexer.specs.Faults.{argumentPosition, textNumber, textPosition}
+use Rattle.faults.specs.Faults.{argumentPosition, textNumber, textPosition}
 use Rattle.lexer.specs.Pieces.{grown, pieces, Full, Shaped, shaped}
 use Rattle.lexer.specs.Tokens.{Lexeme, word, number, dash, lexeme, spelt}
-use Rattle.lexer.specs.declared.faults.Argument.{Argument}
-use Rattle.lexer.specs.declared.faults.Argument.the-variants.{A, B, C, D}
-use Rattle.lexer.specs.declared.faults.TextFault.{TextFault}
-use Rattle.lexer.specs.declared.faults.TextFault.the-variants.{TooLong, NoNames, NoShape, NoWord, NoValue}
+use Rattle.faults.specs.declared.Argument.{Argument}
+use Rattle.faults.specs.declared.Argument.the-variants.{A, B, C, D}
+use Rattle.faults.specs.declared.TextFault.{TextFault}
+use Rattle.faults.specs.declared.TextFault.the-variants.{TooLong, NoNames, NoShape, NoWord, NoValue}
 use Rattle.load.proofs.Shapes.{decides-shaped, not-from, parsed-shape, parsed-err, parsed-call}
 use Rattle.load.specs.Calls.{parsed, call, valueAt, wordSaid}
 use Rattle.load.specs.declared.names.Columns.{Columns}

@@ -14,13 +14,13 @@ use Rattle.std.specs.shelf.Sorted.{Shuffled}
 use Rattle.std.specs.shelf.Text.{allDigits}
 use Rattle.graph.specs.declared.Call.{Call}
 use Rattle.graph.specs.declared.Call.the-variants as calls
-use Rattle.lexer.specs.Faults.{argumentPosition}
-use Rattle.lexer.specs.Numbers.{readOn}
+use Rattle.faults.specs.Faults.{argumentPosition}
+use Rattle.numbers.specs.Numbers.{readOn}
 use Rattle.lexer.specs.Pieces.{pieces, Shaped}
-use Rattle.lexer.specs.declared.faults.Argument.{Argument}
-use Rattle.lexer.specs.declared.faults.Argument.the-variants.{A, B, C, D}
-use Rattle.lexer.specs.declared.faults.TextFault.{TextFault}
-use Rattle.lexer.specs.declared.faults.TextFault.the-variants.{TooLong, NoNames, NoShape, NoWord, NoValue}
+use Rattle.faults.specs.declared.Argument.{Argument}
+use Rattle.faults.specs.declared.Argument.the-variants.{A, B, C, D}
+use Rattle.faults.specs.declared.TextFault.{TextFault}
+use Rattle.faults.specs.declared.TextFault.the-variants.{TooLong, NoNames, NoShape, NoWord, NoValue}
 use Rattle.load.specs.Calls.{parsed}
 use Rattle.load.specs.declared.names.Columns.{Columns}
 use Rattle.words.specs.Table.{name}

@@ -19,7 +19,7 @@ use Rattle.std.specs.shelf.Text.{allDigits, sameBytes}
 use Rattle.std.proofs.shelf.Decimals.{digits-decimal, value-decimal, decimal-some}
 use Rattle.std.proofs.shelf.Numerals.{Numerals, numerals-by-fold, tells-allDigits, not-in-digits}
 use Rattle.std.proofs.shelf.Tests.{cond-false, ne-eqb}
-use Rattle.lexer.specs.Numbers.{readOn}
+use Rattle.numbers.specs.Numbers.{readOn}
 use Rattle.lexer.specs.Pieces.{Lacks, lines, pieces}
 use Rattle.lexer.proofs.Cuts.{pieces-more, pieces-last, lines-more}
 use Rattle.report.specs.declared.reports.Report.{Report}

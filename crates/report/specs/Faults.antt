@@ -4,8 +4,8 @@ use Rattle.std.specs.declared.result.Result.{Result}
 use Rattle.std.specs.declared.result.Result.the-variants.{Ok, Err}
 use Rattle.graph.specs.Numbers.{refusalNumber, refusalPosition}
 use Rattle.graph.specs.declared.Refusal.{Refusal}
-use Rattle.lexer.specs.Faults.{textNumber, textPosition}
-use Rattle.lexer.specs.declared.faults.TextFault.{TextFault}
+use Rattle.faults.specs.Faults.{textNumber, textPosition}
+use Rattle.faults.specs.declared.TextFault.{TextFault}
 use Rattle.report.specs.declared.faults.CallFault.{CallFault}
 use Rattle.report.specs.declared.faults.CallFault.the-variants.{Text, Heap}
 use Rattle.report.specs.declared.faults.LineFault.{LineFault}

@@ -13,8 +13,8 @@ use Rattle.graph.specs.Graph.{Graph, bare}
 use Rattle.graph.specs.Step.{Outcome, step}
 use Rattle.graph.specs.declared.Call.{Call}
 use Rattle.lexer.specs.Pieces.{lines}
-use Rattle.lexer.specs.declared.faults.TextFault.{TextFault}
-use Rattle.lexer.specs.declared.faults.TextFault.the-variants.{TooLong}
+use Rattle.faults.specs.declared.TextFault.{TextFault}
+use Rattle.faults.specs.declared.TextFault.the-variants.{TooLong}
 use Rattle.load.specs.Calls.{parsed}
 use Rattle.load.specs.Names.{columnsIn}
 use Rattle.load.specs.Steps.{andThen}

@@ -11,7 +11,7 @@ use Rattle.std.specs.declared.option.Option.{Option}
 use Rattle.std.specs.declared.option.Option.the-variants.{Some, None}
 use Rattle.std.specs.shelf.Lists.{All}
 use Rattle.std.specs.shelf.Text.{sameBytes}
-use Rattle.lexer.specs.Numbers.{readOn}
+use Rattle.numbers.specs.Numbers.{readOn}
 use Rattle.lexer.specs.Pieces.{lines, pieces}
 use Rattle.report.specs.declared.reports.Report.{Report}
 use Rattle.report.specs.Reports.{shownReport, output}

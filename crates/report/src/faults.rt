@@ -5,8 +5,8 @@ ghost use Rattle.std.specs.declared.result.Result.{Result};
 ghost use Rattle.report.specs.declared.faults.LineFault.{LineFault};
 ghost use Rattle.report.specs.declared.faults.CallFault.the-variants.{Text, Heap};
 ghost use Rattle.report.specs.Faults.{faultNumber, faultPosition, onLine};
+use faults::TextFault;
 use graph::Refusal;
-use lexer::faults::TextFault;
 
 /// What stops a call: the text of its line, or the heap.
 #[derive(Clone, Copy)]

@@ -13,7 +13,7 @@ use crate::faults::CallFaultFromText;
 use crate::faults::LineFault;
 use crate::faults::OnLine;
 use crate::faults::ResultOnLine;
-use lexer::faults::TextFault;
+use faults::TextFault;
 use lexer::lines::next_line;
 use load::names::Columns;
 use load::names::columns_of;

@@ -1,6 +1,6 @@
 use mathlib.Core.Path.{sym, ap}
 use Rattle.std.specs.Options.{okOr}
-use Rattle.lexer.specs.declared.faults.TextFault.the-variants.{NoWord}
+use Rattle.faults.specs.declared.TextFault.the-variants.{NoWord}
 use Rattle.words.proofs.Tells.{word-none}
 use Rattle.load.proofs.calls.called.Needs as need
 

@@ -1,7 +1,7 @@
 use native.Mathlib.Omega.{arith}
 use mathlib.Core.Path.{refl, sym, ap, _∙_}
 use Rattle.std.specs.Options.{okOr}
-use Rattle.lexer.specs.declared.faults.TextFault.the-variants.{NoNames}
+use Rattle.faults.specs.declared.TextFault.the-variants.{NoNames}
 use Rattle.lexer.specs.Tokens.{held, said}
 use Rattle.load.proofs.Titles.{found, passed, none-left, further-none}
 use Rattle.load.proofs.names.place_of.Needs as need

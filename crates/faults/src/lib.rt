@@ -1,6 +1,6 @@
 // Where the load text is stopped.
 ghost use mathlib.Core.Path.{_≡_};
-ghost use Rattle.lexer.specs.Faults.{argumentPosition, textNumber, textPosition};
+ghost use Rattle.faults.specs.Faults.{argumentPosition, textNumber, textPosition};
 
 /// The four columns that a call's arguments fill, from the left.
 #[derive(Clone, Copy, PartialEq, Eq, Debug)]

@@ -13,19 +13,14 @@ use Rattle.std.specs.shelf.Text.{allDigits}
 use Rattle.std.proofs.shelf.Lists.{at-drop-more, at-drop-all}
 use Rattle.std.proofs.shelf.Tests.{cond-true, cond-false, and-from, and-left, and-right, le-leb}
 use Rattle.std.proofs.shelf.Ways.{tells}
-use Rattle.lexer.specs.Numbers.{readOn, numeral, natural}
+use Rattle.lexer.proofs.Lexemes.{digit, other}
+use Rattle.numbers.specs.Numbers.{readOn, numeral, natural}
 
 -- the first i bytes are digits, and write n
 pub record Reading (ds : List ℕ) (i n : ℕ) : Type 0 where
   pub small : n < 10 ^ i
   pub all : allDigits ds ≡ allDigits (drop i ds)
   pub rest : readOn 0 ds ≡ readOn n (drop i ds)
-
-pub digit : (b : ℕ) → In 48 57 b → asciiDigit b ≡ true
-digit b h = and-from _ _ (le-leb 48 b (h .0)) (le-leb b 57 (h .1))
-
-pub other : (b : ℕ) → (In 48 57 b → ⊥) → asciiDigit b ≡ false
-other b h = grind (arith, tells)
 
 module _ (ds : List ℕ) (i n : ℕ) (within : i < length ds) (so : Reading ds i n) where
   pub more : In 48 57 (getD ds i 0) → Reading ds (i + 1) (n * 10 + (getD ds i 0 - 48))

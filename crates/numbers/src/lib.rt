@@ -2,12 +2,12 @@
 ghost use mathlib.Core.Path.{_≡_};
 ghost use Prim.Native.Nat.{ℕ, _+_, _-_, _*_, _^_, _<_, _≤_};
 ghost use Rattle.std.specs.Options.{okOr};
-ghost use Rattle.lexer.specs.Numbers.{natural, plain, signed, unused};
+ghost use Rattle.numbers.specs.Numbers.{natural, plain, signed, unused};
 ghost use Rattle.lexer.specs.Tokens.{said};
-ghost use Rattle.lexer.specs.declared.faults.TextFault.the-variants.{NoValue};
-use crate::faults::Argument;
-use crate::faults::TextFault;
-use crate::tokens::Token;
+ghost use Rattle.faults.specs.declared.TextFault.the-variants.{NoValue};
+use faults::Argument;
+use faults::TextFault;
+use lexer::tokens::Token;
 
 /// The number that one to ten digits write.
 pub fn natural_of(digits: &[u8]) -> Option<u64>

@@ -1,7 +1,7 @@
 use native.Mathlib.Omega.{arith}
 use borrow.Author.Needs.{needs}
-use Rattle.lexer.proofs.Digits.{more, stops, done}
-use Rattle.lexer.proofs.numbers.natural_of.Needs as need
+use Rattle.numbers.proofs.Digits.{more, stops, done}
+use Rattle.numbers.proofs.natural_of.Needs as need
 
 pub returns-in-rest : need.returns-in-rest
 returns-in-rest c = stops _ _ _ (omega arith) (c .loop-b .inv) (search needs)
