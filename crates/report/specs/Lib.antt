@@ -1,0 +1,4 @@
+pub mod Faults
+pub mod Reports
+pub mod Reading
+pub mod Loads
