@@ -31,12 +31,12 @@ loop-line-again g c =
     let cut = c .in-Some .ensures tt in
     let pushed = chosen _ _ _ _ (c .push .ensures .items) (ap isOk (c .in-Continue-push .was tt)) in (
       (λ st stands.
-        let now = inv .0 st stands in
-        let given = line-at m columns n line v w result W (inv .1) ran (now .0) (now .1) in (
-          answered (advance m W) (now .0) (parsed columns line) .1,
-          given .1,
-          turn m W columns n _ (vec-items (c .loop-line .reports)) _ (now .0) line _ _ (c .report-of .result) (cut .0) (now .2) pushed (c .report-of .ensures ∙ ap (reported n) (given .0))
-        )),
+          let now = inv .0 st stands in
+          let given = line-at m columns n line v w result W (inv .1) ran (now .0) (now .1) in (
+            answered (advance m W) (now .0) (parsed columns line) .1,
+            given .1,
+            turn m W columns n _ (vec-items (c .loop-line .reports)) _ (now .0) line _ _ (c .report-of .result) (cut .0) (now .2) pushed (c .report-of .ensures ∙ ap (reported n) (given .0)),
+          )),
       ran .limit ∙ inv .1,
       c .run-line-result .ensures .scheme ∙ inv .2,
       omega (arith, cut .1, inv .3),

@@ -17,8 +17,8 @@ Inv-loop-line g l =
     let m : Meaning = g .S·Scheme .meaning (l .entry .heap .scheme) in
     let W : ℕ = l .entry .heap .limit in
     ((st : State) → StandsAt m (view (g .M·Memory .words) (l .entry .heap)) st →
-      (now : State) × StandsAt m (view (g .M·Memory .words) (l .heap)) now
-      × (vec-items (l .reports) ++ runs (advance m W) now (l .columns) (l .number) (lines (l .rest)) ≡ vec-items (l .entry .reports) ++ runs (advance m W) st (l .columns) 2 (lines (l .text))))
+    (now : State) × StandsAt m (view (g .M·Memory .words) (l .heap)) now
+    × (vec-items (l .reports) ++ runs (advance m W) now (l .columns) (l .number) (lines (l .rest)) ≡ vec-items (l .entry .reports) ++ runs (advance m W) st (l .columns) 2 (lines (l .text))))
     × (l .heap .limit ≡ l .entry .heap .limit)
     × (l .heap .scheme ≡ l .entry .heap .scheme)
     × (l .number + length (l .rest) ≤ 65538)
