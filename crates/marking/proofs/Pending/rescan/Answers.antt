@@ -24,8 +24,8 @@ loop-turn-again g c =
             λ P limit so C all roots rounds e f st.
                 let k = inv .1 P limit so C all roots rounds e f st in
                 let e1 = e ∙ sym (inv .0 .length) in
-                let sz = size-read _ P limit so up C all _ _ (c .args .end) f (k .cursor) (c .if-cursor-end .left) ws hs (k .going .is) (c .size-size .result) (c .size-size .ensures) in
-                let small = place-small _ P limit so up C all _ _ (c .args .end) f (k .cursor) (c .if-cursor-end .left) (c .size-size .result) sz in
+                let sz = size-read _ P limit so up C all (k .to) _ _ (c .args .end) f (k .cursor) (c .if-cursor-end .left) ws hs (k .going .is) (c .size-size .result) (c .size-size .ensures) in
+                let small = place-small _ P limit so up C all (k .to) _ _ (c .args .end) f (k .cursor) (c .if-cursor-end .left) (c .size-size .result) sz in
                 walk-scan _ P limit so up C all roots rounds ws hs e1 _ _ (c .args .end) f _ k (c .if-cursor-end .left) (c .size-size .result) (c .place-place .result) _ sz (c .place-place .ensures) (c .next-cursor .ensures small)
                 (ap (λ (x : ℕ). x % 4) (sym (c .look .ensures)) ∙ w .if-look-eq3 .taken) _ _ _ _ _ _ (w .scan .ensures .kept) (w .scan .ensures .scanned) (w .drain .ensures .drained),
           )
@@ -35,8 +35,8 @@ loop-turn-again g c =
             λ P limit so C all roots rounds e f st.
                 let k = inv .1 P limit so C all roots rounds e f st in
                 let e1 = e ∙ sym (inv .0 .length) in
-                let sz = size-read _ P limit so up C all _ _ (c .args .end) f (k .cursor) (c .if-cursor-end .left) ws hs (k .going .is) (c .size-size .result) (c .size-size .ensures) in
-                let small = place-small _ P limit so up C all _ _ (c .args .end) f (k .cursor) (c .if-cursor-end .left) (c .size-size .result) sz in
+                let sz = size-read _ P limit so up C all (k .to) _ _ (c .args .end) f (k .cursor) (c .if-cursor-end .left) ws hs (k .going .is) (c .size-size .result) (c .size-size .ensures) in
+                let small = place-small _ P limit so up C all (k .to) _ _ (c .args .end) f (k .cursor) (c .if-cursor-end .left) (c .size-size .result) sz in
                 walk-skip _ P limit so up C all roots rounds ws hs e1 _ _ (c .args .end) f _ k (c .if-cursor-end .left) (c .size-size .result) (c .place-place .result) _ sz (c .place-place .ensures) (c .next-cursor .ensures small)
                 (λ z. w .if-look-eq3 .left (ap (λ (x : ℕ). x % 4) (c .look .ensures) ∙ z)),
           )

@@ -24,8 +24,8 @@ loop-turn-again g c =
             λ m P limit so C all e f st.
                 let k = inv .1 m P limit so C all e f st in
                 let e1 = e ∙ sym (inv .0 .length) in
-                let sz = size-read m P limit so up C all _ _ (c .args .end) f (k .cursor) (c .if-cursor-end .left) ws hs (k .fading .is) (c .size-size .result) (c .size-size .ensures) in
-                let small = place-small m P limit so up C all _ _ (c .args .end) f (k .cursor) (c .if-cursor-end .left) (c .size-size .result) sz in
+                let sz = size-read m P limit so up C all (k .to) _ _ (c .args .end) f (k .cursor) (c .if-cursor-end .left) ws hs (k .fading .is) (c .size-size .result) (c .size-size .ensures) in
+                let small = place-small m P limit so up C all (k .to) _ _ (c .args .end) f (k .cursor) (c .if-cursor-end .left) (c .size-size .result) sz in
                 clear-off m P limit so up C all ws hs e1 _ _ (c .args .end) f k (c .if-cursor-end .left) (c .size-size .result) (c .place-place .result) _ sz (c .place-place .ensures) (c .next-cursor .ensures small)
                 (ap (λ (x : ℕ). x % 4) (sym (c .look-header .ensures)) ∙ w .if-header-eq3 .taken) _ _ (c .look-header .result) (c .look-header .ensures) (w .store .ensures),
           )
@@ -35,8 +35,8 @@ loop-turn-again g c =
             λ m P limit so C all e f st.
                 let k = inv .1 m P limit so C all e f st in
                 let e1 = e ∙ sym (inv .0 .length) in
-                let sz = size-read m P limit so up C all _ _ (c .args .end) f (k .cursor) (c .if-cursor-end .left) ws hs (k .fading .is) (c .size-size .result) (c .size-size .ensures) in
-                let small = place-small m P limit so up C all _ _ (c .args .end) f (k .cursor) (c .if-cursor-end .left) (c .size-size .result) sz in
+                let sz = size-read m P limit so up C all (k .to) _ _ (c .args .end) f (k .cursor) (c .if-cursor-end .left) ws hs (k .fading .is) (c .size-size .result) (c .size-size .ensures) in
+                let small = place-small m P limit so up C all (k .to) _ _ (c .args .end) f (k .cursor) (c .if-cursor-end .left) (c .size-size .result) sz in
                 clear-skip m P limit so up C all ws hs e1 _ _ (c .args .end) f k (c .if-cursor-end .left) (c .size-size .result) (c .place-place .result) _ sz (c .place-place .ensures) (c .next-cursor .ensures small)
                 (λ z. w .if-header-eq3 .left (ap (λ (x : ℕ). x % 4) (c .look-header .ensures) ∙ z)),
           )
