@@ -1,16 +1,15 @@
 -- Each kept object's words after a collection are those of before.
 use mathlib.Core.Path.{_≡_, refl, sym, ap, _∙_}
-use mathlib.Core.Bool.{Bool, true, false}
-use mathlib.Core.List.{List, [], _++_}
+use mathlib.Core.Bool.{true, false}
+use mathlib.Core.List.{List, []}
 use Prim.Native.Nat.{ℕ, _+_, _<_}
 use native.Mathlib.Omega.{arith}
-use lib.ListN.{length, getD}
+use lib.ListN.{getD}
 use Rattle.std.proofs.shelf.Tests.{true≢false}
 use Rattle.std.proofs.shelf.Lists.{getD-map}
-use Rattle.graph.specs.Graph.{Value, empty, number, object, Graph, held, objectAt, size}
-use Rattle.graph.specs.Words.{placeOf, reference, valueWord, objectWords, image, handleWords}
-use Rattle.graph.specs.Places.{isObject, refersAt}
-use Rattle.graph.specs.Sound.{Sound}
+use Rattle.graph.specs.Graph.{Value, empty, number, object, held, objectAt, size}
+use Rattle.graph.specs.Words.{placeOf, reference, valueWord, objectWords}
+use Rattle.graph.specs.Places.{isObject}
 use Rattle.graph.proofs.Places.{word-in}
 use Rattle.graph.proofs.Slots.{refers-to, plain-word}
 use Rattle.space.specs.Collections.{Same-word, Same-handle, Fields-stay}

@@ -1,12 +1,12 @@
 -- A cursor on its way over a side, and the new place that goes with it.
 use mathlib.Core.Path.{_≡_, refl, sym, ap, subst, _∙_}
-use mathlib.Core.Bool.{Bool, true, false, cond}
+use mathlib.Core.Bool.{Bool, true, false}
 use mathlib.Core.Logic.{_⊎_, inl, inr}
 use Prim.Native.Nat.{ℕ, zero, suc, _+_, _-_, _<_, _≤_}
 use native.Mathlib.Omega.{arith}
 use Rattle.std.proofs.shelf.Tests.{cases-eq}
 use Rattle.scheme.specs.Meaning.{Meaning}
-use Rattle.space.specs.Pass.{Plan, Here, Step, Course, placeBy, nextBy, gapBy}
+use Rattle.space.specs.Pass.{Plan, Step, Course, nextBy, gapBy}
 
 pub closer : (b : Bool) (t c d size end : ℕ) → d ≡ nextBy b c size → size ≤ gapBy b c end → 1 < size → t + gapBy b c end ≤ 16384 → t + 1 + gapBy b d end ≤ 16384
 closer true t c d size end x y z w = omega arith

@@ -1,8 +1,6 @@
-use native.Mathlib.Omega.{arith}
-use Prim.Native.Nat.{ℕ, _+_, _<_, _%_, _^_}
-use mathlib.Core.Path.{_≡_, refl, sym, ap, subst, _∙_}
+use Prim.Native.Nat.{ℕ, _%_}
+use mathlib.Core.Path.{sym, ap, _∙_}
 use mathlib.Core.Logic.{inl, inr}
-use Rattle.space.specs.Weave.{view}
 use Rattle.space.proofs.Wovens.{kept-refl, kept-then}
 use Rattle.marking.proofs.Walks.{size-read, place-small, walk-start, walk-scan, walk-skip, walk-end}
 use Rattle.marking.proofs.Pending.rescan.Needs as need
