@@ -12,7 +12,7 @@ use Rattle.std.proofs.shelf.Tests.{both-ways, false≢true, cases-bool, and-par
 use Rattle.std.proofs.shelf.Lists.{getD-map}
 use Rattle.std.proofs.shelf.Ways.{tells}
 use Rattle.scheme.specs.Meaning.{Meaning}
-use Rattle.graph.specs.Graph.{Value, empty, number, object, Cell, Object, aRecord, aLayout, aMap, Graph, held, objectAt, size, isRecord}
+use Rattle.graph.specs.Graph.{Value, empty, number, object, Object, aRecord, aLayout, aMap, Graph, held, objectAt, size, isRecord}
 use Rattle.graph.specs.Reach.{Names, its-layout, its-map, wordsOf}
 use Rattle.graph.specs.Step.{objectKind, figureOf}
 use Rattle.graph.specs.Words.{placeOf, recordStands, reference, header, headerKind, valueWord, objectWords, wordsAt, handleWords}
@@ -292,16 +292,6 @@ module _ (m : Meaning) (W : ℕ) (g : Graph) (s k : List Bool) (kp : Keeps m W g
       let N = length (g .objects) in
       let b = total-le (λ q. cond (recordStands g s q) 1 0) (suc q) N (below-many W g s fits long q e) in
       omega (arith, z, record-turn W g s fits long q r, class-turn W g s fits long t c)
-
-  layout-is : (o : Object) (cells : List Cell) → FieldsOf m g o cells → isRecord o ≡ false
-  layout-is (aRecord l xs) cells f = absurd f
-  layout-is (aLayout c n) cells f = refl
-  layout-is (aMap r n p) cells f = absurd f
-
-  map-is : (o : Object) → objectKind o ≡ 4 → isRecord o ≡ false
-  map-is (aRecord l xs) e = absurd (omega (arith, e))
-  map-is (aLayout c n) e = refl
-  map-is (aMap r n p) e = refl
 
   quiet : (q t w i : ℕ) → getD s q false ≡ true → isRecord (objectAt g q) ≡ true → getD s t false ≡ true → isRecord (objectAt g t) ≡ false → 0 < w → w < size (objectAt g t) → turnOf W g s q ≡ i + 1 → Quiet (plan W g s k rest) i (placeOf W g s t + w)
   quiet q t w i e r d c a l z = record { body = body-at t w d a l; turn = rw (rank-at t w d l) (class-later q t i e r c z) }
