@@ -1,12 +1,13 @@
 -- A cursor on its way over a side, and the new place that goes with it.
 use mathlib.Core.Path.{_≡_, refl, sym, ap, subst, _∙_}
 use mathlib.Core.Bool.{Bool, true, false}
+use mathlib.Core.List.{List}
 use mathlib.Core.Logic.{_⊎_, inl, inr}
 use Prim.Native.Nat.{ℕ, zero, suc, _+_, _-_, _<_, _≤_}
 use native.Mathlib.Omega.{arith}
 use Rattle.std.proofs.shelf.Tests.{cases-eq}
 use Rattle.scheme.specs.Meaning.{Meaning}
-use Rattle.space.specs.Pass.{Plan, Step, Course, nextBy, gapBy}
+use Rattle.space.specs.Pass.{Sized, Stops, Plan, Step, Course, nextBy, gapBy}
 
 pub closer : (b : Bool) (t c d size end : ℕ) → d ≡ nextBy b c size → size ≤ gapBy b c end → 1 < size → t + gapBy b c end ≤ 16384 → t + 1 + gapBy b d end ≤ 16384
 closer true t c d size end x y z w = omega arith
@@ -149,3 +150,15 @@ module _ {m : Meaning} {P : Plan} {up : Bool} (C : Course m P up) where
             to = eq;
             far = rw ec (closer up t c (nextBy up c size) size (C .old (C .many)) refl (rw (sym f) (stepped .room)) (stepped .here .some) (k .far));
           }
+
+  -- a cursor stops at the end alone, where the sizes that it reads are those of the objects
+  pub stop-at-end : (ws hs : List ℕ) (q c t end : ℕ) (f : end ≡ C .old (C .many)) (k : Cursor q c t) → ((ne : c ≡ end → ⊥) (size : ℕ) → Sized up ws hs c size → size ≡ C .size (next q c t end f k ne .at)) →
+      Stops up ws hs c end → c ≡ end
+  stop-at-end ws hs q c t end f k reads stops =
+      elim (cases-eq c end) [
+        | inl z ↦ z
+        | inr ne ↦
+            let x = stops .size ne in
+            let st = stepped q c t end f k ne (x .0) (reads ne (x .0) (x .1)) in
+            absurd (elim (x .2) [ inl l ↦ omega (arith, l, st .room) | inr l ↦ omega (arith, l, st .low .0) ])
+      ]
