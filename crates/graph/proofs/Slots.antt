@@ -1,20 +1,19 @@
 -- Which words of an object are references, by its kind and rule and by the words.
 use mathlib.Core.Path.{_≡_, refl, sym, ap, ap₂, subst, _∙_}
 use mathlib.Core.Bool.{Bool, true, false, cond, not, _&&_, _||_}
-use mathlib.Core.Logic.{_⊎_, inl, inr}
-use mathlib.Core.List.{List, [], _∷_, _++_, map}
-use Prim.Native.Nat.{ℕ, zero, suc, _+_, _-_, _*_, _/_, _%_, _<_, _≤_}
+use mathlib.Core.Logic.{inl, inr}
+use mathlib.Core.List.{List, map}
+use Prim.Native.Nat.{ℕ, zero, suc, _-_, _<_}
 use native.Mathlib.Omega.{arith}
-use lib.Dec.{eqb, ltb, leb}
+use lib.Dec.{eqb, leb}
 use lib.IntN.{ℤ}
 use lib.ListN.{length, getD}
-use Rattle.std.proofs.shelf.Tests.{both-ways, false≢true, true≢false, and-parts, cond-true, cond-false, ne-eqb, le-leb, lt-leb, eqb-true, cases-eq, cases-lt}
-use Rattle.std.proofs.shelf.Lists.{getD-map, getD-past, length-map}
-use Rattle.std.proofs.shelf.Ways.{tells}
+use Rattle.std.proofs.shelf.Tests.{false≢true, true≢false, and-parts, ne-eqb, le-leb, lt-leb, eqb-true, cases-lt}
+use Rattle.std.proofs.shelf.Lists.{getD-map, getD-past}
 use Rattle.scheme.specs.Meaning.{Meaning, isRaw}
-use Rattle.graph.specs.Graph.{Value, empty, number, object, Cell, raw, value, Object, aRecord, aLayout, aMap, Graph, objectAt, size, isRecord}
+use Rattle.graph.specs.Graph.{Value, empty, number, object, Cell, raw, value, Object, aRecord, aLayout, aMap, Graph, objectAt, size}
 use Rattle.graph.specs.Reach.{Names, its-layout, its-field, its-map, its-name, its-parent}
-use Rattle.graph.specs.Step.{objectKind, figureOf, rawCell, inRange}
+use Rattle.graph.specs.Step.{figureOf, rawCell, inRange}
 use Rattle.graph.specs.Words.{headerKind, valueWord, fieldWord, objectWords}
 use Rattle.graph.specs.Sound.{Contains, in-field, as-name, as-parent, FieldsOf, Formed}
 use Rattle.graph.proofs.Laws.{numbers-encoded}

@@ -1,5 +1,4 @@
 -- The standing objects as addresses: which object has an address, in which order the objects are visited, and which words are references.
-use mathlib.Core.Path.{_≡_}
 use mathlib.Core.Bool.{Bool, true, false, cond, not, _&&_, _||_}
 use mathlib.Core.List.{List}
 use Prim.Native.Nat.{ℕ, zero, suc, _+_, _-_, _%_}

@@ -1,42 +1,43 @@
 -- The reachable places are those of the reachable objects; the begin of a collection and its giving up, in the words of the graph.
 use mathlib.Core.Path.{_≡_, refl, sym, ap, ap₂, subst, _∙_}
-use mathlib.Core.Bool.{Bool, true, false, cond, not, _&&_, _||_}
-use mathlib.Core.List.{List, [], _∷_, _++_}
-use mathlib.Core.Logic.{_⊎_, inl, inr}
-use Prim.Native.Nat.{ℕ, zero, suc, _+_, _-_, _*_, _/_, _%_, _<_, _≤_}
+use mathlib.Core.Bool.{Bool, true, false, cond, _&&_, _||_}
+use mathlib.Core.List.{List, [], _++_}
+use mathlib.Core.Logic.{inl, inr}
+use Prim.Native.Nat.{ℕ, zero, suc, _+_, _-_, _/_, _%_, _<_, _≤_}
 use native.Mathlib.Omega.{arith}
 use native.Mathlib.Nat.{add-zero}
-use lib.Dec.{eqb, ltb, leb}
-use lib.ListN.{length, getD, take, drop, length-append, take-append-drop}
-use Rattle.std.proofs.shelf.Tests.{both-ways, false≢true, cases-bool, and-parts, and-from, and-left, and-right, or-left, or-right, or-cases, cond-true, cond-false, ne-eqb, eq-eqb, eqb-true, lt-ltb, le-ltb, le-leb, cases-lt, cases-eq}
-use Rattle.std.proofs.shelf.Lists.{getD-past, getD-map, length-map}
+use lib.Dec.{eqb}
+use lib.ListN.{length, getD, drop, length-append, take-append-drop}
+use Rattle.std.proofs.shelf.Tests.{false≢true, cases-bool, and-parts, and-from, and-left, and-right, or-left, or-right, or-cases, cond-true, cond-false, ne-eqb, eq-eqb, eqb-true, cases-lt, cases-eq}
+use Rattle.std.proofs.shelf.Lists.{getD-past, length-map}
 use Rattle.scheme.specs.Meaning.{Meaning}
-use Rattle.graph.specs.Graph.{Value, empty, number, object, Cell, raw, value, Object, aRecord, aLayout, aMap, Graph, held, objectAt, size}
-use Rattle.graph.specs.Reach.{Names, its-layout, its-field, its-map, its-name, its-parent, Reachable, by-handle, by-object, reachable, total, chosenSize, wordsOf, liveWords}
-use Rattle.graph.specs.Words.{placeOf, reference, header, headerKind, valueWord, fieldWord, objectWords, image, handleWords, lowEnd, highEnd}
+use Rattle.graph.specs.Graph.{Value, empty, number, object, Graph, held, objectAt, size}
+use Rattle.graph.specs.Reach.{Names, Reachable, by-handle, by-object, reachable, total, chosenSize, wordsOf}
+use Rattle.graph.specs.Words.{placeOf, reference, headerKind, valueWord, image}
 use Rattle.graph.specs.Sound.{Sound}
 use Rattle.graph.specs.Rests.{Rests}
-use Rattle.graph.proofs.Reach.{length-reachable, reachable-sound, reachable-complete}
-use Rattle.graph.proofs.Sound.{sound-collects, stands-below}
+use Rattle.graph.proofs.Reach.{reachable-sound, reachable-complete}
+use Rattle.graph.proofs.Sound.{sound-collects}
 use Rattle.graph.proofs.Frame.{length-image, size-pos}
 use Rattle.graph.proofs.Grow.{total-same}
 use Rattle.graph.proofs.Laws.{references-read, headers-read}
 use Rattle.space.specs.Weave.{view, Kept}
 use Rattle.graph.specs.Places.{refers}
-use Rattle.space.specs.Pass.{Plan, Planned}
-use Rattle.graph.specs.Places.{isObject, cellRefers, refersAt, turnOf, owner}
-use Rattle.space.specs.Layout.{Keeps, Begun, plan}
+use Rattle.space.specs.Pass.{Plan}
+use Rattle.graph.specs.Places.{isObject, turnOf, owner}
+use Rattle.space.specs.Layout.{Keeps, plan}
 use Rattle.graph.proofs.Places.{rest-at, one-turn, below-many, turn-bounds}
 use Rattle.graph.proofs.Slots.{names-refer, names-word, refers-to}
-use Rattle.space.proofs.Plans.{Body, Root, slot-of, head-of, slot-at, rank-at, word-at, handle-at, head-word, owner-place, ends, high-reference, kind-four}
+use Rattle.space.proofs.Plans.{slot-of, head-of, slot-at, rank-at, word-at, handle-at, head-word, owner-place, ends, high-reference, kind-four}
 use Rattle.marking.specs.declared.Pending.{Pending}
-use Rattle.marking.specs.Marks.{Standing, Sides, Marked, marked, Reaches, by-handle as from-handle, by-object as from-object, live, Going, stage, nothing, Rooted, Settled, Done}
+use Rattle.marking.specs.Marks.{Marked, marked, Reaches, by-handle as from-handle, by-object as from-object, live, Rooted, Settled, Done}
 use Rattle.marking.specs.Unmarks.{Fading, UnmarkedSide}
-use Rattle.marking.specs.Begins.{Begins-with, Begins, GivesUp}
-use Rattle.marking.proofs.Totals.{total-put, total-none}
+use Rattle.marking.specs.Begins.{Begins, GivesUp}
+use Rattle.graph.proofs.Totals.{total-put, total-none}
 use Rattle.marking.proofs.Rounds.{start}
 use Rattle.marking.proofs.Fades.{faded}
-use Rattle.marking.proofs.Images.{keeps-all, standing, sides, look, image-marked, marks-in, marked-image}
+use Rattle.space.proofs.Standings.{keeps-all, standing, sides}
+use Rattle.marking.proofs.Images.{look, image-marked, marks-in, marked-image}
 
 both-same : (x y : Bool) → (x ≡ true → y ≡ true) → (y ≡ true → x ≡ true) → x ≡ y
 both-same true y f h = sym (f refl)

@@ -1,50 +1,38 @@
 -- The words at rest, with any marks, as words of the plan that keeps all that stands.
 use mathlib.Core.Path.{_≡_, refl, sym, ap, ap₂, subst, _∙_}
-use mathlib.Core.Bool.{Bool, true, false, cond, not, _&&_, _||_}
-use mathlib.Core.List.{List, [], _∷_, _++_}
+use mathlib.Core.Bool.{Bool, true, false, not, _&&_}
+use mathlib.Core.List.{List, _++_}
 use mathlib.Core.Logic.{_⊎_, inl, inr}
-use Prim.Native.Nat.{ℕ, zero, suc, _+_, _-_, _*_, _/_, _%_, _<_, _≤_}
+use Prim.Native.Nat.{ℕ, zero, suc, _+_, _-_, _%_, _<_, _≤_}
 use native.Mathlib.Omega.{arith}
 use native.Mathlib.Nat.{add-zero}
-use lib.Dec.{eqb, ltb, leb}
+use lib.Dec.{eqb}
 use lib.ListN.{length, getD, length-append}
-use Rattle.std.proofs.shelf.Tests.{both-ways, false≢true, true≢false, cases-bool, and-parts, and-from, and-left, and-right, cond-true, cond-false, ne-eqb, eq-eqb, eqb-true, lt-ltb, le-ltb, cases-lt, cases-eq}
-use Rattle.std.proofs.shelf.Lists.{ext-getD, getD-append-left, length-map}
+use Rattle.std.proofs.shelf.Tests.{both-ways, false≢true, cases-bool, and-parts, and-from, and-left, cond-true, ne-eqb, eq-eqb, cases-lt, cases-eq}
+use Rattle.std.proofs.shelf.Lists.{ext-getD, length-map}
 use Rattle.scheme.specs.Meaning.{Meaning}
-use Rattle.graph.specs.Graph.{Object, Graph, objectAt, size, isRecord}
-use Rattle.graph.specs.Reach.{total, wordsOf}
-use Rattle.graph.specs.Words.{placeOf, recordStands, classStands, recordSize, classSize, reference, header, headerKind, valueWord, objectWords, wordsAt, image, handleWords, lowEnd, highEnd}
+use Rattle.graph.specs.Graph.{Object, Graph, objectAt, size}
+use Rattle.graph.specs.Reach.{total}
+use Rattle.graph.specs.Words.{placeOf, recordStands, classStands, recordSize, classSize, reference, header, headerKind, valueWord, objectWords, image, handleWords, lowEnd, highEnd}
 use Rattle.graph.specs.Sound.{Sound}
 use Rattle.graph.proofs.Piles.{total-le}
-use Rattle.graph.proofs.Frame.{total-sides, size-pos, length-image, read-word}
+use Rattle.graph.proofs.Frame.{size-pos, length-image}
 use Rattle.space.specs.Weave.{view}
-use Rattle.space.specs.Pass.{Plan, Planned, Here}
-use Rattle.graph.specs.Places.{owner, records, classes, turnOf}
-use Rattle.space.specs.Layout.{Keeps, headOf, plan}
-use Rattle.graph.proofs.Places.{word-in, cover, covered, zero-at, rest-at, In, below-many, owner-in, owned-by, record-place, class-place, turn-bounds}
-use Rattle.space.proofs.Plans.{ends, head-word, owner-place, head-of, head-at, here-at, planned, plan-handles}
-use Rattle.space.proofs.Courses.{records-course, classes-course, sides-fit}
-use Rattle.marking.specs.Marks.{Standing, Sides, Marked, marked}
+use Rattle.space.specs.Pass.{Plan}
+use Rattle.graph.specs.Places.{owner}
+use Rattle.space.specs.Layout.{Keeps, plan}
+use Rattle.graph.proofs.Places.{word-in, cover, covered, zero-at, rest-at, below-many, owner-in, owned-by, record-place, class-place}
+use Rattle.space.proofs.Plans.{ends, head-word, head-of, head-at}
+use Rattle.space.proofs.Courses.{sides-fit}
+use Rattle.marking.specs.Marks.{Marked, marked}
+use Rattle.space.proofs.Stores.{view-low, view-high, view-handle}
+use Rattle.space.proofs.Standings.{keeps-all, standing}
 use Rattle.marking.proofs.Steps.{plain, full, lacks as unmarked-lacks}
-
-pub view-low : (ws hs : List ℕ) (a : ℕ) → a < 16384 → view ws hs a ≡ getD ws a 0
-view-low ws hs a l = cond-true _ _ _ (lt-ltb a 16384 l)
-
-view-high : (ws vs hs : List ℕ) (a : ℕ) → 16384 ≤ a → view ws hs a ≡ view vs hs a
-view-high ws vs hs a l = cond-false _ _ _ (le-ltb a 16384 l) ∙ sym (cond-false _ _ _ (le-ltb a 16384 l))
-
-pub view-handle : (ws hs : List ℕ) (h : ℕ) → h < 32 → view ws hs (16384 + h) ≡ getD hs h 0
-view-handle ws hs h l =
-    let f : 16384 + h - 16384 ≡ h = omega arith in
-    cond-false _ _ _ (le-ltb (16384 + h) 16384 (omega arith)) ∙ cond-true _ _ _ (lt-ltb (16384 + h) 16416 (omega arith)) ∙ ap (λ i. getD hs i 0) f
 
 -- a word behind the header has no mark
 behind : (ref : ℕ → ℕ) (b c : Bool) (o : Object) (i : ℕ) → (i ≡ 0 → ⊥) → getD (objectWords ref b o) i 0 ≡ getD (objectWords ref c o) i 0
 behind ref b c o zero ne = absurd (ne refl)
 behind ref b c o (suc i) ne = refl
-
-pub keeps-all : (m : Meaning) (W : ℕ) (g : Graph) (s : List Bool) → Sound m W g s → W ≤ 16384 → Keeps m W g s s
-keeps-all m W g s so lim = record { sound = so; limit = lim; as-long = so .as-long; stand = λ q e. e; held-kept = so .held-stands; named-kept = so .named-stands }
 
 module _ (m : Meaning) (W : ℕ) (g : Graph) (s : List Bool) (snd : Sound m W g s) (lim : W ≤ 16384) (rest : List ℕ) where
   abbrev P : Plan
@@ -52,45 +40,6 @@ module _ (m : Meaning) (W : ℕ) (g : Graph) (s : List Bool) (snd : Sound m W g 
 
   abbrev kp : Keeps m W g s s
   kp = keeps-all m W g s snd lim
-
-  pub standing : Standing m P W
-  standing =
-      record {
-        planned = planned m W g s s kp rest;
-        handles = plan-handles m W g s s kp rest;
-        small = lim;
-        holds = omega arith;
-        object = λ p h.
-            let x = head-of m W g s s kp rest p h in
-            let q = x .0 in
-            let b = turn-bounds W g s (snd .fits) (snd .as-long) q (x .2) in
-            let number : turnOf W g s q ≡ turnOf W g s q - 1 + 1 = omega (arith, b .0) in
-            record {
-              size = size (objectAt g q);
-              new = placeOf W g s q;
-              number = turnOf W g s q - 1;
-              here =
-                  subst (λ (a : ℕ). Here m P true (size (objectAt g q)) (placeOf W g s q) a (turnOf W g s q - 1)) (sym (x .3))
-                  (subst (λ (b : Bool). Here m P b (size (objectAt g q)) (placeOf W g s q) (placeOf W g s q) (turnOf W g s q - 1)) (x .2) (here-at m W g s s kp rest q (turnOf W g s q - 1) (x .2) number));
-              ends = omega (arith, x .3, ends m W g s s kp rest q (x .2));
-            };
-      }
-
-  pub sides : (low high : ℕ) → low ≡ lowEnd g s → high ≡ highEnd W g s → Sides m P W low high
-  sides low high l h =
-      record {
-        records = records-course m W g s s kp rest;
-        classes = classes-course m W g s s kp rest;
-        records-from = refl;
-        records-end = l;
-        records-first = refl;
-        records-all = λ j e. and-parts (getD s j false) (isRecord (objectAt g j)) e .0;
-        classes-from = omega arith;
-        classes-end = h;
-        classes-first = add-zero (records W g s (length (g .objects)));
-        classes-last = refl;
-        classes-all = λ j e. and-parts (getD s j false) (not (isRecord (objectAt g j))) e .0;
-      }
 
   -- an address of no object lies between the sides or behind the W words
   unowned : (mk : List Bool) (a : ℕ) → owner W g s (length (g .objects)) a ≡ 0 → getD (image W g s mk ++ rest) a 0 ≡ getD (image W g s s ++ rest) a 0
@@ -201,7 +150,7 @@ module _ (m : Meaning) (W : ℕ) (g : Graph) (s : List Bool) (snd : Sound m W g 
         | inr nh ↦ plain P f x a nh ∙ sym (plain P h y a nh)
         | inl hd ↦
             elim (cases-bool (marked P f a)) [
-              | inl on ↦ full m P W standing f x a on ∙ sym (full m P W standing h y a (sym (e a) ∙ on))
+              | inl on ↦ full m P W (standing m W g s snd lim rest) f x a on ∙ sym (full m P W (standing m W g s snd lim rest) h y a (sym (e a) ∙ on))
               | inr off ↦
                   let u = lacks f x a hd off in
                   let v = lacks h y a hd (sym (e a) ∙ off) in
@@ -210,7 +159,7 @@ module _ (m : Meaning) (W : ℕ) (g : Graph) (s : List Bool) (snd : Sound m W g 
       ]
     where
       lacks : (f : ℕ → ℕ) → Marked P f → (a : ℕ) → P .head a ≡ true → marked P f a ≡ false → f a + 2 ≡ P .words a
-      lacks f x a hd off = unmarked-lacks m P W standing f x a hd (λ z. both-ways (marked P f a) off (and-from (P .head a) (eqb (f a % 4) 3) hd (eq-eqb (f a % 4) 3 z)))
+      lacks f x a hd off = unmarked-lacks m P W (standing m W g s snd lim rest) f x a hd (λ z. both-ways (marked P f a) off (and-from (P .head a) (eqb (f a % 4) 3) hd (eq-eqb (f a % 4) 3 z)))
 
   -- the words of the heap, from the marks of its objects
   pub marked-image : (mk : List Bool) (vs gs : List ℕ) → Marked P (view vs gs) → ((q : ℕ) → getD s q false ≡ true → marked P (view vs gs) (placeOf W g s q) ≡ getD mk q false) →

@@ -1,4 +1,3 @@
-pub mod Totals
 pub mod Steps
 pub mod Walks
 pub mod Rounds

@@ -1,25 +1,24 @@
 -- The start of marking, its handles, its rounds and its end.
 use mathlib.Core.Path.{_≡_, refl, sym, ap, subst, _∙_}
-use mathlib.Core.Bool.{Bool, true, false, cond, _&&_, _||_}
-use mathlib.Core.List.{List, [], _∷_}
-use mathlib.Core.Logic.{_⊎_, inl, inr}
+use mathlib.Core.Bool.{Bool, true, false, cond}
+use mathlib.Core.List.{List}
+use mathlib.Core.Logic.{inl, inr}
 use Prim.Native.Nat.{ℕ, _+_, _-_, _/_, _%_, _<_, _≤_}
 use native.Mathlib.Omega.{arith}
-use lib.Dec.{eqb, leb, ltb}
+use lib.Dec.{ltb}
 use lib.ListN.{length, getD}
-use Rattle.std.proofs.shelf.Tests.{both-ways, and-from, le-leb, lt-leb, le-ltb, lt-ltb, ltb-true, cond-true, cond-false, cases-eq, cases-lt, cases-bool}
-use Rattle.std.proofs.shelf.Ways.{tells}
+use Rattle.std.proofs.shelf.Tests.{both-ways, le-leb, lt-leb, le-ltb, lt-ltb, cases-eq}
 use Rattle.scheme.specs.Meaning.{Meaning}
-use Rattle.space.specs.Weave.{view, inside}
+use Rattle.space.specs.Weave.{view}
 use Rattle.graph.specs.Places.{refers}
-use Rattle.space.specs.Pass.{Plan, Planned}
+use Rattle.space.specs.Pass.{Plan}
 use Rattle.marking.specs.declared.Pending.{Pending}
-use Rattle.marking.specs.Marks.{Standing, Marked, marked, Reaches, by-handle, by-object, live, unmarked, Stage, stage, Going, nothing, after, MarkedAt, Done}
-use Rattle.marking.proofs.Totals.{total-none}
+use Rattle.space.specs.Standing.{Standing}
+use Rattle.marking.specs.Marks.{Marked, marked, Reaches, by-handle, by-object, live, unmarked, stage, Going, nothing, after, MarkedAt, Done}
+use Rattle.space.proofs.Stores.{view-handle}
+use Rattle.space.proofs.Walk.{inside-below}
+use Rattle.graph.proofs.Totals.{total-none}
 use Rattle.marking.proofs.Steps.{plain, head-of, turn-todo, few-unmarked}
-
-pub inside-below : (n s : ℕ) → inside n s ≡ true → s < 16416
-inside-below n s h = grind (arith, tells)
 
 module _ (m : Meaning) (P : Plan) (limit : ℕ) (so : Standing m P limit) where
   -- nothing is marked yet
@@ -38,12 +37,7 @@ module _ (m : Meaning) (P : Plan) (limit : ℕ) (so : Standing m P limit) where
 
   -- a handle's word
   pub handle-word : (ws hs : List ℕ) (h : ℕ) → h < 32 → Marked P (view ws hs) → getD hs h 0 ≡ P .words (16384 + h)
-  handle-word ws hs h l is =
-      let f : 16384 + h - 16384 ≡ h = omega arith in
-      ap (λ i. getD hs i 0) (sym f)
-      ∙ sym (cond-true _ _ _ (lt-ltb (16384 + h) 16416 (omega arith)))
-      ∙ sym (cond-false _ _ _ (le-ltb (16384 + h) 16384 (omega arith)))
-      ∙ plain P (view ws hs) is (16384 + h) (so .handles .region h (omega arith) l .1)
+  handle-word ws hs h l is = sym (view-handle ws hs h l) ∙ plain P (view ws hs) is (16384 + h) (so .handles .region h (omega arith) l .1)
 
   module _ (h : ℕ) (l : h < 32) (todo : ℕ → Bool) (turns rounds : ℕ) where
     root-more : (look : ℕ → ℕ) (q : Pending) → (P .slot (16384 + h) ≡ true → marked P look (P .words (16384 + h) / 4) ≡ true) →

@@ -12,7 +12,7 @@ pub use unmark::give_up;
 /// Places of marked objects whose references are still to be marked. Where one found no room, `overflow` asks for another scan of the heap.
 /// `live` is the words of the objects marked so far.
 #[derive(Drop)]
-pub struct Pending {
+struct Pending {
     places: [u32; 64],
     count: u32,
     overflow: bool,

@@ -84,10 +84,9 @@ impl Pending {
     {
         let mut cursor = from;
         for turn in 0..WORDS {
-            if cursor == end {
+            let Some(size) = space.size_at::<T>(cursor, end) else {
                 break;
-            }
-            let size = T::size(space, cursor);
+            };
             let place = T::place(cursor, size);
             if space.look(place) % 4 == 3 {
                 self.scan(space, scheme, place);

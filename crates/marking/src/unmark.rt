@@ -18,10 +18,9 @@ fn unmark_side<T: Side, M: Memory>(space: &mut Space<M>, from: u32, end: u32)
 {
     let mut cursor = from;
     for turn in 0..WORDS {
-        if cursor == end {
+        let Some(size) = space.size_at::<T>(cursor, end) else {
             break;
-        }
-        let size = T::size(space, cursor);
+        };
         let place = T::place(cursor, size);
         let header = space.look(place);
         if header % 4 == 3 {

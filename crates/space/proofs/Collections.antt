@@ -1,18 +1,21 @@
 -- Each kept object's words after a collection are those of before.
 use mathlib.Core.Path.{_≡_, refl, sym, ap, _∙_}
 use mathlib.Core.Bool.{Bool, true, false}
-use mathlib.Core.List.{List, [], _++_}
+use mathlib.Core.List.{List, []}
 use Prim.Native.Nat.{ℕ, _+_, _<_}
 use native.Mathlib.Omega.{arith}
-use lib.ListN.{length, getD}
+use lib.ListN.{getD, take}
 use Rattle.std.proofs.shelf.Tests.{true≢false}
 use Rattle.std.proofs.shelf.Lists.{getD-map}
 use Rattle.graph.specs.Graph.{Value, empty, number, object, Graph, held, objectAt, size}
-use Rattle.graph.specs.Words.{placeOf, reference, valueWord, objectWords, image, handleWords}
-use Rattle.graph.specs.Places.{isObject, refersAt}
-use Rattle.graph.specs.Sound.{Sound}
+use Rattle.graph.specs.Words.{placeOf, reference, valueWord, objectWords, image}
+use Rattle.graph.specs.Places.{isObject}
 use Rattle.graph.proofs.Places.{word-in}
 use Rattle.graph.proofs.Slots.{refers-to, plain-word}
+use Rattle.scheme.specs.Meaning.{Meaning}
+use Rattle.graph.specs.Rests.{Rests}
+use Rattle.graph.proofs.Frame.{mid-take, length-image}
+use Rattle.space.specs.Collect.{Ended}
 use Rattle.space.specs.Collections.{Same-word, Same-handle, Fields-stay}
 
 pub fields-stay : Fields-stay
@@ -52,3 +55,12 @@ fields-stay m W g s k rest words handles words′ handles′ low high low′ hig
           refers = λ t f. (b .keeps .held-kept h t f, first h l ∙ ap (valueWord (reference W g s)) f, last h l ∙ ap (valueWord (reference W g k)) f);
           plain = λ z. last h l ∙ same (held g h) z ∙ sym (first h l);
         }
+
+-- a heap whose collection is closed is at rest
+pub rests-again : (m : Meaning) (W : ℕ) (g : Graph) (k : List Bool) (rest words handles : List ℕ) (low high : ℕ) → Ended m W g k rest words handles low high → Rests m W g k words handles
+rests-again m W g k rest words handles low high e =
+    record {
+      sound = e .sound;
+      memory = ap (take W) (e .memory) ∙ mid-take [] (image W g k []) rest 0 W refl (length-image W g k [] (e .sound .fits));
+      handle-words = e .handle-words;
+    }

@@ -1,34 +1,31 @@
 -- The words that a collection leaves.
-use mathlib.Core.Path.{_≡_, refl, sym, ap, ap₂, subst, _∙_}
-use mathlib.Core.Bool.{Bool, true, false, cond, not, _&&_, _||_}
-use mathlib.Core.List.{List, [], _∷_, _++_, map}
+use mathlib.Core.Path.{_≡_, refl, sym, ap, ap₂, _∙_}
+use mathlib.Core.Bool.{Bool, true, false, cond, _&&_}
+use mathlib.Core.List.{List, [], _++_}
 use mathlib.Core.Logic.{_⊎_, inl, inr}
-use Prim.Native.Nat.{ℕ, zero, suc, _+_, _-_, _*_, _/_, _%_, _<_, _≤_}
+use Prim.Native.Nat.{ℕ, zero, suc, _+_, _-_, _*_, _/_, _<_, _≤_}
 use native.Mathlib.Omega.{arith}
-use native.Mathlib.Nat.{add-zero}
-use lib.Dec.{eqb, ltb, leb}
-use lib.ListN.{length, getD, replicate, length-append, length-replicate}
-use Rattle.std.proofs.shelf.Tests.{both-ways, false≢true, true≢false, cases-bool, and-parts, and-from, and-left, cond-true, cond-false, ne-eqb, eq-eqb, lt-ltb, le-ltb, ltb-true, leb-true, le-leb, lt-leb, cases-lt, cases-eq}
-use Rattle.std.proofs.shelf.Lists.{getD-append-left, getD-append-right, getD-replicate, getD-map}
+use lib.Dec.{eqb, leb}
+use lib.ListN.{length, getD}
+use Rattle.std.proofs.shelf.Tests.{cases-bool, and-left, cond-true, cond-false, ne-eqb, eq-eqb, lt-ltb, leb-true, le-leb, lt-leb, cases-eq}
+use Rattle.std.proofs.shelf.Lists.{getD-map}
 use Rattle.scheme.specs.Meaning.{Meaning}
 use Rattle.graph.specs.Graph.{Value, empty, number, object, Object, aRecord, aLayout, aMap, Graph, held, objectAt, size, isRecord}
-use Rattle.graph.specs.Reach.{Names, total, chosenSize, wordsOf}
-use Rattle.graph.specs.Words.{upward, downward, placeOf, between, recordStands, classStands, recordSize, classSize, reference, header, headerKind, valueWord, objectWords, wordsAt, recordWords, classWords, image, handleWords, lowEnd, highEnd}
+use Rattle.graph.specs.Reach.{chosenSize, wordsOf}
+use Rattle.graph.specs.Words.{placeOf, between, recordSize, classSize, reference, header, headerKind, valueWord, objectWords, image, handleWords, lowEnd, highEnd}
 use Rattle.graph.specs.Sound.{Sound}
-use Rattle.graph.proofs.Piles.{total-le, length-upward}
-use Rattle.graph.proofs.Frame.{total-sides, size-pos, length-image, read-word, length-recordWords}
-use Rattle.graph.proofs.Sound.{stands-below}
-use Rattle.graph.proofs.Laws.{references-read, headers-read, record-counts, class-counts}
+use Rattle.graph.proofs.Piles.{total-le}
+use Rattle.graph.proofs.Laws.{references-read, headers-read, record-counts}
 use Rattle.space.specs.Collect.{Base}
 use Rattle.graph.proofs.Places.{word-in, zero-at, rest-at, below-many, owned-by, record-place, class-place}
-use Rattle.space.specs.Weave.{view, renewed}
+use Rattle.space.specs.Weave.{renewed}
 use Rattle.space.specs.Weave.{reference as refer}
-use Rattle.space.specs.Pass.{Plan, renew, unmarkedAt}
+use Rattle.space.specs.Pass.{renew, unmarkedAt}
 use Rattle.graph.specs.Places.{isObject, refersAt, owner}
 use Rattle.space.specs.Layout.{Keeps, slotOf, plan}
-use Rattle.graph.proofs.Slots.{refers-to, refers-not-0, plain-word}
-use Rattle.space.proofs.Plans.{word-at, head-word, handle-at, slot-at, new-at, owner-past, high-reference, kind-four}
-use Rattle.space.proofs.Courses.{total-fewer, cond-less}
+use Rattle.graph.proofs.Slots.{refers-to, plain-word}
+use Rattle.space.proofs.Plans.{word-at, head-word, handle-at, slot-at, new-at, owner-past, kind-four}
+use Rattle.graph.proofs.Totals.{total-fewer, cond-less}
 
 -- the graph with the kept objects alone is sound
 pub kept-sound : (m : Meaning) (W : ℕ) (g : Graph) (s k : List Bool) → Keeps m W g s k → Sound m W g k

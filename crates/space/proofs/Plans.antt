@@ -1,33 +1,32 @@
 -- The plan of a graph is sound, and its objects are where it says.
 use mathlib.Core.Path.{_≡_, refl, sym, ap, ap₂, subst, _∙_}
-use mathlib.Core.Bool.{Bool, true, false, cond, not, _&&_, _||_}
-use mathlib.Core.List.{List, [], _∷_, _++_, map}
+use mathlib.Core.Bool.{Bool, true, false, cond, _&&_}
+use mathlib.Core.List.{List, map}
 use mathlib.Core.Logic.{_⊎_, inl, inr}
-use Prim.Native.Nat.{ℕ, zero, suc, _+_, _-_, _*_, _/_, _%_, _<_, _≤_}
+use Prim.Native.Nat.{ℕ, zero, suc, _+_, _-_, _/_, _%_, _<_, _≤_}
 use native.Mathlib.Omega.{arith}
 use native.Mathlib.Nat.{add-zero}
-use lib.Dec.{eqb, ltb, leb}
-use lib.IntN.{ℤ}
+use lib.Dec.{eqb, leb}
 use lib.ListN.{length, getD}
-use Rattle.std.proofs.shelf.Tests.{both-ways, false≢true, cases-bool, and-parts, and-from, and-left, cond-true, cond-false, ne-eqb, eq-eqb, eqb-true, lt-ltb, le-ltb, ltb-true, leb-true, le-leb, cases-lt, cases-eq}
-use Rattle.std.proofs.shelf.Lists.{getD-map, length-map, getD-append-left}
+use Rattle.std.proofs.shelf.Tests.{both-ways, false≢true, cases-bool, and-parts, and-left, cond-true, cond-false, ne-eqb, eq-eqb, eqb-true, lt-ltb, le-ltb, ltb-true, leb-true, le-leb}
+use Rattle.std.proofs.shelf.Lists.{getD-map}
 use Rattle.std.proofs.shelf.Ways.{tells}
-use Rattle.scheme.specs.Meaning.{Meaning, isRaw}
-use Rattle.graph.specs.Graph.{Value, empty, number, object, Cell, raw, value, Object, aRecord, aLayout, aMap, Graph, held, objectAt, size, isRecord}
-use Rattle.graph.specs.Reach.{Names, its-layout, its-field, its-map, its-name, its-parent, total, wordsOf}
-use Rattle.graph.specs.Step.{objectKind, figureOf, rawCell, inRange}
-use Rattle.graph.specs.Words.{placeOf, recordStands, classStands, recordSize, classSize, reference, header, headerKind, valueWord, fieldWord, bodyWords, objectWords, wordsAt, image, handleWords}
-use Rattle.graph.specs.Sound.{Sound, Contains, FieldsOf, Formed}
+use Rattle.scheme.specs.Meaning.{Meaning}
+use Rattle.graph.specs.Graph.{Value, empty, number, object, Object, aRecord, aLayout, aMap, Graph, held, objectAt, size, isRecord}
+use Rattle.graph.specs.Reach.{Names, its-layout, its-map, wordsOf}
+use Rattle.graph.specs.Step.{objectKind, figureOf}
+use Rattle.graph.specs.Words.{placeOf, recordStands, reference, header, headerKind, valueWord, objectWords, wordsAt, handleWords}
+use Rattle.graph.specs.Sound.{FieldsOf, Formed}
 use Rattle.graph.proofs.Piles.{total-le}
-use Rattle.graph.proofs.Frame.{size-pos, length-image, read-word}
-use Rattle.graph.proofs.Laws.{numbers-encoded, references-read, headers-read}
+use Rattle.graph.proofs.Frame.{size-pos}
+use Rattle.graph.proofs.Laws.{references-read, headers-read}
 use Rattle.graph.proofs.Rests.{place-fits}
-use Rattle.space.specs.Weave.{view, inside}
+use Rattle.space.specs.Weave.{inside}
 use Rattle.graph.specs.Places.{refers, valueAt}
-use Rattle.space.specs.Pass.{Plan, Planned, Slot, Here, Ruled, Quiet, Handles}
-use Rattle.graph.specs.Places.{isObject, cellRefers, refersAt, owner, records, classes, turnOf, rankOf}
+use Rattle.space.specs.Pass.{Planned, Slot, Here, Ruled, Quiet, Handles}
+use Rattle.graph.specs.Places.{isObject, refersAt, owner, turnOf, rankOf}
 use Rattle.space.specs.Layout.{Keeps, headOf, slotOf, newOf, plan}
-use Rattle.graph.proofs.Places.{word-in, In, below-many, owner-in, owned-by, owner-at, turn-bounds, one-turn, ranked-by, record-turn, class-turn}
+use Rattle.graph.proofs.Places.{word-in, below-many, owner-in, owned-by, owner-at, turn-bounds, one-turn, ranked-by, record-turn, class-turn}
 use Rattle.graph.proofs.Slots.{mapOf, ruleOf, refers-value, refers-to, refers-not-0, value-at}
 
 inside-word : (n a : ℕ) → a < n → a < 16384 → inside n a ≡ true
@@ -293,16 +292,6 @@ module _ (m : Meaning) (W : ℕ) (g : Graph) (s k : List Bool) (kp : Keeps m W g
       let N = length (g .objects) in
       let b = total-le (λ q. cond (recordStands g s q) 1 0) (suc q) N (below-many W g s fits long q e) in
       omega (arith, z, record-turn W g s fits long q r, class-turn W g s fits long t c)
-
-  layout-is : (o : Object) (cells : List Cell) → FieldsOf m g o cells → isRecord o ≡ false
-  layout-is (aRecord l xs) cells f = absurd f
-  layout-is (aLayout c n) cells f = refl
-  layout-is (aMap r n p) cells f = absurd f
-
-  map-is : (o : Object) → objectKind o ≡ 4 → isRecord o ≡ false
-  map-is (aRecord l xs) e = absurd (omega (arith, e))
-  map-is (aLayout c n) e = refl
-  map-is (aMap r n p) e = refl
 
   quiet : (q t w i : ℕ) → getD s q false ≡ true → isRecord (objectAt g q) ≡ true → getD s t false ≡ true → isRecord (objectAt g t) ≡ false → 0 < w → w < size (objectAt g t) → turnOf W g s q ≡ i + 1 → Quiet (plan W g s k rest) i (placeOf W g s t + w)
   quiet q t w i e r d c a l z = record { body = body-at t w d a l; turn = rw (rank-at t w d l) (class-later q t i e r c z) }

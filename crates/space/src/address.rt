@@ -1,5 +1,6 @@
 // One address space: address p below 16,384 is word p of the memory, 16,384 + h is handle h.
 ghost use mathlib.Core.Path.{_≡_};
+ghost use lib.ListN.{replicate};
 ghost use Rattle.space.specs.Weave.{view, Stored};
 use crate::ADDRESSES;
 use crate::Space;
@@ -8,7 +9,9 @@ use memory::Memory;
 
 impl<M: Memory> Space<M> {
     /// A space with empty handles.
-    pub fn new(memory: M) -> Self {
+    pub fn new(memory: M) -> Self
+        ensures { λ r. ⌜ M·Memory .words (r .memory) ≡ M·Memory .words memory ⌝ ∗ ⌜ r .handles ≡ replicate 32 0 ⌝ }
+    {
         Space {
             memory,
             handles: [0; 32],

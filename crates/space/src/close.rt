@@ -41,20 +41,12 @@ impl<M: Memory> Space<M> {
         let mut cursor = from;
         let mut to = from;
         for turn in 0..WORDS {
-            if cursor == end {
+            let Some(size) = self.size_at::<T>(cursor, end) else {
                 break;
-            }
-            let size = T::size(self, cursor);
-            if size > T::gap(cursor, end) {
-                break;
-            }
+            };
             let place = T::place(cursor, size);
             let new_place = T::place(to, size);
-            if place > WORDS
-                || size > WORDS - place
-                || new_place > WORDS
-                || size > WORDS - new_place
-            {
+            if new_place > WORDS || size > WORDS - new_place {
                 break;
             }
             let header = self.header_of(place);

@@ -61,17 +61,10 @@ impl<M: Memory> Space<M> {
         let mut cursor = from;
         let mut to = from;
         for turn in 0..WORDS {
-            if cursor == end {
+            let Some(size) = self.size_at::<T>(cursor, end) else {
                 break;
-            }
-            let size = T::size(self, cursor);
-            if size > T::gap(cursor, end) {
-                break;
-            }
+            };
             let place = T::place(cursor, size);
-            if place > WORDS || size > WORDS - place {
-                break;
-            }
             let header = self.header_of(place);
             if header % 4 == 3 {
                 self.visit(scheme, place, T::place(to, size), size, header / 4 % 4);

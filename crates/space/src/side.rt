@@ -2,8 +2,9 @@
 ghost use mathlib.Core.Path.{_≡_};
 ghost use Prim.Native.Nat.{_<_, _+_, _^_};
 ghost use mathlib.Core.Bool.{Bool, true, false};
-ghost use Rattle.space.specs.Pass.{Sized, placeBy, nextBy, gapBy, orderBy};
+ghost use Rattle.space.specs.Pass.{Sized, placeBy, nextBy, gapBy, orderBy, Came};
 use crate::Space;
+use crate::WORDS;
 use memory::Memory;
 
 // A side of the heap: the way in which a cursor goes over its objects.
@@ -82,5 +83,25 @@ pub impl Side for Classes as ClassesSide {
 
     fn order(size: u32, i: u32) -> u32 {
         size.saturating_sub(1).saturating_sub(i)
+    }
+}
+
+impl<M: Memory> Space<M> {
+    /// The size of the object that the cursor has come to on its way to the end, if one lies there.
+    pub fn size_at<T: Side>(&self, cursor: u32, end: u32) -> Option<u32>
+        ensures { λ r. ⌜ Came (T·Side .upward) (M·Memory .words (now (self .entry) .memory)) (now (self .entry) .handles) cursor end r ⌝ }
+    {
+        if cursor == end {
+            return None;
+        }
+        let size = T::size(self, cursor);
+        if size > T::gap(cursor, end) {
+            return None;
+        }
+        let place = T::place(cursor, size);
+        if place > WORDS || size > WORDS - place {
+            return None;
+        }
+        Some(size)
     }
 }

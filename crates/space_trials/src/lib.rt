@@ -328,6 +328,18 @@ mod tests {
         same
     }
 
+    // All of them, one after the other in the same space.
+    fn passes<M: Memory, N: Memory>(space: &mut Space<M>, other: &mut Space<N>) -> [bool; 4] {
+        let fanned = fanned(space, other);
+        space.handles = [0; 32];
+        other.handles = [0; 32];
+        let chained = chained(space, other);
+        space.handles = [0; 32];
+        let bounds = bounds(space);
+        space.handles = [0; 32];
+        [fanned, chained, bounds, mixed(space)]
+    }
+
     #[test]
     fn over_words() -> Result<(), Fail> {
         let mut first = [0; 371];
@@ -336,14 +348,7 @@ mod tests {
         let other_words: &mut [u32] = &mut second;
         let mut space = Space::new(words);
         let mut other = Space::new(other_words);
-        let fanned = fanned(&mut space, &mut other);
-        space.handles = [0; 32];
-        other.handles = [0; 32];
-        let chained = chained(&mut space, &mut other);
-        space.handles = [0; 32];
-        let bounds = bounds(&mut space);
-        space.handles = [0; 32];
-        let mixed = mixed(&mut space);
+        let passed = passes(&mut space, &mut other);
         let Space {
             memory: _,
             handles: _,
@@ -352,28 +357,18 @@ mod tests {
             memory: _,
             handles: _,
         } = other;
-        check(fanned)?;
-        check(chained)?;
-        check(bounds)?;
-        check(mixed)
+        check_eq(passed, [true; 4])
     }
 
     #[test]
     fn over_bytes() -> Result<(), Fail> {
         let mut first = [0; 1484];
-        let mut second = [0; 1484];
+        let mut second = [0; 371];
         let bytes: &mut [u8] = &mut first;
-        let other_bytes: &mut [u8] = &mut second;
+        let words: &mut [u32] = &mut second;
         let mut space = Space::new(bytes);
-        let mut other = Space::new(other_bytes);
-        let fanned = fanned(&mut space, &mut other);
-        space.handles = [0; 32];
-        other.handles = [0; 32];
-        let chained = chained(&mut space, &mut other);
-        space.handles = [0; 32];
-        let bounds = bounds(&mut space);
-        space.handles = [0; 32];
-        let mixed = mixed(&mut space);
+        let mut other = Space::new(words);
+        let passed = passes(&mut space, &mut other);
         let Space {
             memory: _,
             handles: _,
@@ -382,9 +377,6 @@ mod tests {
             memory: _,
             handles: _,
         } = other;
-        check(fanned)?;
-        check(chained)?;
-        check(bounds)?;
-        check(mixed)
+        check_eq(passed, [true; 4])
     }
 }

@@ -4,7 +4,8 @@ use Prim.Native.Nat.{ℕ, _-_}
 use lib.ListN.{length}
 use Rattle.space.specs.Weave.{view, Kept}
 use Rattle.space.specs.Pass.{Plan}
-use Rattle.marking.specs.Marks.{Standing, Going, stage}
+use Rattle.space.specs.Standing.{Standing}
+use Rattle.marking.specs.Marks.{Going, stage}
 use Rattle.marking.proofs.Pending.drain.Given as given
 
 abbrev pub Inv-loop-turn : given.InvT-loop-turn

@@ -4,7 +4,7 @@ use Prim.Native.Nat.{ℕ}
 use lib.ListN.{length}
 use Rattle.space.specs.Weave.{view, Kept}
 use Rattle.space.specs.Pass.{Plan, Course}
-use Rattle.marking.specs.Marks.{Standing}
+use Rattle.space.specs.Standing.{Standing}
 use Rattle.marking.proofs.Walks.{Walking}
 use Rattle.marking.proofs.Pending.rescan.Given as given
 

@@ -4,7 +4,8 @@ use Prim.Native.Nat.{ℕ}
 use lib.ListN.{length}
 use Rattle.space.specs.Weave.{view, Kept}
 use Rattle.space.specs.Pass.{Plan}
-use Rattle.marking.specs.Marks.{Standing, Going, stage, also, marked}
+use Rattle.space.specs.Standing.{Standing}
+use Rattle.marking.specs.Marks.{Going, stage, also, marked}
 use Rattle.marking.proofs.Steps.{onward}
 use Rattle.marking.proofs.Pending.scan.Given as given
 

@@ -3,7 +3,8 @@ use Prim.Native.Nat.{ℕ, _-_}
 use lib.ListN.{length}
 use Rattle.space.specs.Weave.{view, Kept}
 use Rattle.space.specs.Pass.{Plan}
-use Rattle.marking.specs.Marks.{Standing, Sides, Going, stage, nothing}
+use Rattle.space.specs.Standing.{Standing, Sides}
+use Rattle.marking.specs.Marks.{Going, stage, nothing}
 use Rattle.marking.proofs.Pending.settle.Given as given
 
 abbrev pub Inv-loop-round : given.InvT-loop-round

@@ -5,7 +5,7 @@ use lib.ListN.{length}
 use Rattle.scheme.specs.Meaning.{Meaning}
 use Rattle.space.specs.Weave.{view, Kept}
 use Rattle.space.specs.Pass.{Plan, Course}
-use Rattle.marking.specs.Marks.{Standing}
+use Rattle.space.specs.Standing.{Standing}
 use Rattle.marking.proofs.Fades.{Clearing}
 use Rattle.marking.proofs.unmark.unmark_side.Given as given
 
