@@ -12,3 +12,4 @@ pub mod Rests
 pub mod Runs
 pub mod Sliding
 pub mod Altered
+pub mod ReadBack

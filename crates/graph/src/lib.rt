@@ -10,6 +10,7 @@ pub use theorems::laws_stand;
 pub use theorems::reachability_stands;
 pub use theorems::sliding_stands;
 pub use theorems::soundness_stands;
+pub use theorems::stored_is_read_back;
 pub use theorems::worked_examples_stand;
 
 /// A call with its arguments, from left to right.

@@ -69,3 +69,14 @@ pub fn collections_unnoticed() -> u8
 {
     0
 }
+
+ghost use Rattle.graph.specs.ReadBack.{Numbers-kept, Raw-words-kept, Values-kept};
+
+/// What was stored is read back: a number, a raw word, and the value of a field, be it empty, a number or an object.
+pub fn stored_is_read_back() -> u8
+    ensures numbers { λ _. ⌜ Numbers-kept ⌝ }
+    ensures raws { λ _. ⌜ Raw-words-kept ⌝ }
+    ensures values { λ _. ⌜ Values-kept ⌝ }
+{
+    0
+}
