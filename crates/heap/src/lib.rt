@@ -10,6 +10,7 @@ mod giving;
 mod handles;
 mod making;
 mod parts;
+mod reading;
 mod steps;
 
 /// The most words that a heap uses, whatever its memory has.
