@@ -16,6 +16,3 @@ pub use object::ValueDebug;
 pub use object::ValuePartialEq;
 pub use rules::Rules;
 pub use still::Still;
-
-#[cfg(test)]
-mod tests;
