@@ -592,32 +592,49 @@ fn holds_over<M: Memory + Drop, S: Scheme + Drop>(
     all
 }
 
+/// The word at a place among bytes: four of them, the most significant first.
+fn word_in(bytes: &[u8], place: u32) -> u32 {
+    let mut word = 0u32;
+    let from = (place as usize).saturating_mul(4);
+    for byte in bytes.iter().skip(from).take(4) {
+        word = word.wrapping_mul(256).wrapping_add(u32::from(*byte));
+    }
+    word
+}
+
+/// Whether the words named stand among the bytes.
+fn lie_in(bytes: &[u8], words: &[(u32, u32)]) -> bool {
+    let mut all = true;
+    for (place, word) in words {
+        all = all && word_in(bytes, *place) == *word;
+    }
+    all
+}
+
 impl Example {
     /// Whether the example holds over words.
     fn holds_over_words(self, alloc: Global) -> Result<bool, AllocError> {
         let mut words = vec![in alloc; 9u32; self.length as usize]?;
         let beside = Beside::new(alloc, self.length, self.rules)?;
         let memory = words.as_mut_slice();
-        Ok(
-            match self.rules {
-                Rules::Prefix => holds_over(beside, self, memory, Prefix),
-                Rules::Mask => holds_over(beside, self, memory, Mask),
-            },
-        )
+        let holds = match self.rules {
+            Rules::Prefix => holds_over(beside, self, memory, Prefix),
+            Rules::Mask => holds_over(beside, self, memory, Mask),
+        };
+        Ok(holds)
     }
 
-    /// Whether the example holds over bytes.
+    /// Whether the example holds over bytes, and its words lie in them as they should.
     fn holds_over_bytes(self, alloc: Global) -> Result<bool, AllocError> {
         let length = (self.length as usize).saturating_mul(4).saturating_add(3);
         let mut bytes = vec![in alloc; 9u8; length]?;
         let beside = Beside::new(alloc, self.length, self.rules)?;
         let memory = bytes.as_mut_slice();
-        Ok(
-            match self.rules {
-                Rules::Prefix => holds_over(beside, self, memory, Prefix),
-                Rules::Mask => holds_over(beside, self, memory, Mask),
-            },
-        )
+        let holds = match self.rules {
+            Rules::Prefix => holds_over(beside, self, memory, Prefix),
+            Rules::Mask => holds_over(beside, self, memory, Mask),
+        };
+        Ok(holds && lie_in(bytes.as_slice(), self.words))
     }
 
     /// Whether heap and model do as the example says, over both memories.
