@@ -5,7 +5,7 @@ ghost use lib.IntN.{ℤ, pos};
 ghost use lib.ListN.{length, getD, set};
 ghost use Rattle.graph.specs.declared.Call.the-variants.{Map, Layout, Record};
 ghost use Rattle.graph.specs.Words.{put};
-ghost use Rattle.heap.specs.Views.{view, Meets, Rooms, outcomeOf, nothing};
+ghost use Rattle.heap.specs.Views.{view, Meets, Packs, Rooms, outcomeOf, nothing};
 use crate::Heap;
 use crate::checks::check_fields;
 use crate::checks::check_handle;
@@ -26,6 +26,14 @@ const LAYOUT_WORDS: u32 = 4;
 const MOST_WORDS: usize = 34;
 
 impl<M: Memory, S: Scheme> Heap<M, S> {
+    /// Takes the garbage's words back for a new object, and tells the live words.
+    fn reclaim(&mut self) -> u32
+        ensures packs { λ r. ⌜ Packs (S·Scheme .meaning (now (self .entry) .scheme)) (view (M·Memory .words) (now (self .entry))) (view (M·Memory .words) (now (self .exit))) r ⌝ }
+        ensures scheme { λ _. ⌜ now (self .exit) .scheme ≡ now (self .entry) .scheme ⌝ }
+    {
+        self.pack()
+    }
+
     /// Makes room between the two sides for so many words.
     fn make_room(&mut self, need: u32) -> Result<(), Refusal>
         ensures rooms { λ r. ⌜ Rooms (S·Scheme .meaning (now (self .entry) .scheme)) need (view (M·Memory .words) (now (self .entry))) (view (M·Memory .words) (now (self .exit))) r ⌝ }
@@ -34,7 +42,7 @@ impl<M: Memory, S: Scheme> Heap<M, S> {
         if self.high.saturating_sub(self.low) >= need {
             return Ok(());
         }
-        let live = self.pack();
+        let live = self.reclaim();
         if live as usize + need as usize > self.limit as usize {
             return Err(Refusal::Full);
         }

@@ -1,31 +1,10 @@
 // Runs a load from standard input, and prints what each line gives.
+use input::read_load;
 use runner::answer_load;
 use std::io;
-use std::io::Read;
-
-/// More bytes than this are no load, so no more need be read to tell.
-const LONGEST_INPUT: usize = 65_536;
-
-/// The input, up to a part more than a load may have.
-fn read_input(rt: &LibcRuntime) -> io::Result<Vec<u8>> {
-    let mut input = Vec::new(rt.alloc());
-    let mut part = [0u8; 4096];
-    let mut stdin = rt.stdin();
-    for _ in 0..=LONGEST_INPUT {
-        if input.len() > LONGEST_INPUT {
-            break;
-        }
-        let n = stdin.read(&mut part)?;
-        if n == 0 {
-            break;
-        }
-        input.extend_from_slice(&part[0..n])?;
-    }
-    Ok(input)
-}
 
 fn main(rt: LibcRuntime) -> io::Result<()> {
-    let input = read_input(&rt)?;
+    let input = read_load(&rt)?;
     let output = answer_load(input.as_slice(), rt.alloc())?;
     rt.print(output)
 }

@@ -16,7 +16,7 @@ returns-then-saturating-sub-need g c =
 
 pub returns-then-live-need : need.returns-then-live-need
 returns-then-live-need g c =
-    let packs = c .pack-live .ensures .packs in
+    let packs = c .reclaim-live .ensures .packs in
     record {
       rooms =
           record {
@@ -26,12 +26,12 @@ returns-then-live-need g c =
             refusal = refl;
             roomy = λ l. absurd (omega arith);
           };
-      scheme = c .pack-live .ensures .scheme;
+      scheme = c .reclaim-live .ensures .scheme;
     }
 
 pub returns : need.returns
 returns g c =
-    let packs = c .pack-live .ensures .packs in
+    let packs = c .reclaim-live .ensures .packs in
     record {
       rooms =
           record {
@@ -42,5 +42,5 @@ returns g c =
             refusal = tt;
             roomy = λ l. absurd (omega arith);
           };
-      scheme = c .pack-live .ensures .scheme;
+      scheme = c .reclaim-live .ensures .scheme;
     }
