@@ -1,4 +1,6 @@
 // The heap for C: functions on the caller's words and a state that the caller keeps. include/fusuma.h says how they are used.
+#![tactic(auto)]
+
 ghost use Rattle.std.specs.Prelude.{◌≡◌, ℕ, List};
 ghost use Rattle.clib.specs.States.{Under, Turn};
 ghost use Rattle.clib.specs.Turns.{Opened, Collected, Listed, BegunBy, DrawnBy, ClosedBy, GivenUpBy, Taken};

@@ -1,5 +1,7 @@
 // A dispatch from beginning to end: a car, a landing and a call as records in one heap, linked, dropped and packed, over both memories and
 // both schemes.
+#![tactic(auto)]
+
 use graph::Refusal;
 use heap::Heap;
 use memory::Memory;

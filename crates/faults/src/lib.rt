@@ -1,4 +1,6 @@
 // Where the load text is stopped.
+#![tactic(auto)]
+
 ghost use Rattle.std.specs.Prelude.{◌≡◌};
 ghost use Rattle.faults.specs.Faults.{argument_position, text_number, text_position};
 

@@ -1,4 +1,6 @@
 // The calls of the still graph, and what a call answers.
+#![tactic(auto)]
+
 ghost use Rattle.std.specs.Prelude.{◌≡◌};
 ghost use Rattle.graph.specs.Numbers.{refusal_number, refusal_position, kind_number};
 

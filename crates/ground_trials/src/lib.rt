@@ -1,4 +1,5 @@
 // Tables for the ground: both memories, both schemes, and the words of values, headers and links at their edges.
+#![tactic(auto)]
 
 #[cfg(test)]
 mod tests {

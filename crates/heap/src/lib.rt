@@ -1,4 +1,6 @@
 // A heap of records, layouts and maps over any memory and scheme.
+#![tactic(auto)]
+
 use memory::Memory;
 use scheme::Scheme;
 use space::Space;

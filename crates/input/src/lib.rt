@@ -1,4 +1,6 @@
 // Reading a load from standard input.
+#![tactic(auto)]
+
 use std::io;
 use std::io::Read;
 

@@ -1,3 +1,5 @@
 // The load text: which call a line gives, or what is wrong with it.
+#![tactic(auto)]
+
 pub mod calls;
 pub mod names;

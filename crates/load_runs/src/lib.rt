@@ -1,4 +1,5 @@
 // Whole loads, from text to text: faults of every kind, and the examples of the rules.
+#![tactic(auto)]
 
 #[cfg(test)]
 mod tests {

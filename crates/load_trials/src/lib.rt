@@ -1,4 +1,5 @@
 // Tables of lines for the load text, at the edges of its rules.
+#![tactic(auto)]
 
 /// How many tables there are.
 pub fn tables() -> u8 {

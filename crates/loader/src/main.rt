@@ -1,4 +1,6 @@
 // Runs a load from standard input, and prints what each line gives.
+#![tactic(auto)]
+
 use input::read_load;
 use runner::answer_load;
 use std::io;

@@ -1,4 +1,6 @@
 // Marking: exactly the reachable objects, with at most 64 pending places outside the memory.
+#![tactic(auto)]
+
 ghost use Rattle.std.specs.Prelude.{◌≡◌, ◌≤◌, length};
 
 mod mark;

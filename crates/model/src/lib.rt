@@ -1,5 +1,7 @@
 // A second implementation of the still graph, as plain code over `Vec`. It is written from docs/HEAP.md and shares
 // nothing with the heap but the types of calls and answers: trials run the two beside each other.
+#![tactic(auto)]
+
 mod object;
 mod packed;
 mod reach;

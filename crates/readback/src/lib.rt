@@ -1,4 +1,6 @@
 // What was stored is read back, over both memories and both schemes: the promises at pairs that hold something and admit something.
+#![tactic(auto)]
+
 ghost use Rattle.std.specs.Prelude.{◌≡◌, List, IfOk};
 ghost use Rattle.service.specs.Still.{answers_of};
 ghost use Rattle.readback.specs.Stored.{stored, read_back};

@@ -1,4 +1,6 @@
 // A load over a heap: its lines are run as calls, and what each gives is reported.
+#![tactic(auto)]
+
 ghost use Rattle.std.specs.Prelude.{◌≡◌, ℕ, ◌<◌, ◌≤◌, List, ◌++◌, length, IfOk, string_bytes, OnOk};
 ghost use Rattle.scheme.specs.Meaning.{prefix};
 ghost use Rattle.lexer.specs.Pieces.{lines};

@@ -1,4 +1,6 @@
 // A list of calls over a new heap, and what no such list can tell.
+#![tactic(auto)]
+
 ghost use Rattle.std.specs.Prelude.{ℕ, List, IfOk};
 ghost use Rattle.heap.specs.Views.{view};
 ghost use Rattle.service.specs.Still.{ServedAs};

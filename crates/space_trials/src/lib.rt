@@ -1,4 +1,6 @@
 // Heaps whose words are written out from the rules for words at rest, and what the rules leave of them after a collection.
+#![tactic(auto)]
+
 #[cfg(test)]
 mod tests {
     use marking::{begin, give_up};

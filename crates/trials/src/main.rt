@@ -1,4 +1,6 @@
 // The examples of the rules, and long random loads, to the heap and to the model beside it, over both memories, both schemes and heaps of many sizes.
+#![tactic(auto)]
+
 mod beside;
 mod course;
 mod examples;

@@ -1,4 +1,6 @@
 // Runs a load from standard input and draws the heap after each call, one character for each of its 64 words, so that people see it pack.
+#![tactic(auto)]
+
 mod picture;
 
 use heap::Heap;

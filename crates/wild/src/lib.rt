@@ -3,6 +3,8 @@
 // Most calls are near to being granted: maps are mostly kept in handles 0 to 2, layouts in 3 to 6, records in 7 to 18, and
 // anything in the others. The rest of the arguments stand at the ends of what is allowed, one beyond them, or anywhere
 // among the words.
+#![tactic(auto)]
+
 ghost use Rattle.std.specs.Prelude.{◌+◌, ◌<◌, ◌≤◌};
 
 use graph::Call;

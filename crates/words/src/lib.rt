@@ -1,4 +1,6 @@
 // The eighteen call words.
+#![tactic(auto)]
+
 ghost use Rattle.std.specs.Prelude.{◌≡◌, MatchOption, ◌≢◌};
 ghost use Rattle.words.specs.Table.{name};
 
