@@ -14,4 +14,4 @@ use Rattle.heap.proofs.Heap.clear.Goals as goal
 
 pub returns : goal.returns
 returns g c =
-    ends _ _ (Clear c.args.handle) _ _ _ refl refl refl λ gr s st. sets-done _ (Clear c.args.handle) _ gr s st c.args.handle _ empty refl (all_pass c.in-ok-check-handle.ensures) refl
+    ends _ _ (Clear c.args.handle) _ _ _ refl refl refl λ gr s st. sets-done _ (Clear c.args.handle) _ gr s st c.args.handle _ empty refl (all_pass c.in_ok-check_handle.ensures) refl

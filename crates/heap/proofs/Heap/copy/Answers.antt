@@ -16,8 +16,8 @@ returns g c =
           record {
             done = λ gr s st.
                 sets-done _ (Copy c.args.target c.args.source) v gr s st c.args.target _ (held gr c.args.source) refl
-                (passed c.in-ok-check-handle.ensures (all_pass c.in-ok-check-handle-2.ensures))
-                (read-handle _ _ gr s _ _ st.rests c.args.source c.in-ok-check-handle-2.ensures.gives);
+                (passed c.in_ok-check_handle.ensures (all_pass c.in_ok-check_handle-2.ensures))
+                (read-handle _ _ gr s _ _ st.rests c.args.source c.in_ok-check_handle-2.ensures.gives);
             limit = refl;
           };
       alters = refl;

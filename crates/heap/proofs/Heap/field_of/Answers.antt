@@ -12,14 +12,14 @@ returns-then-field-size g c =
           sifts-err (no_field _ _ gr s st x c.args.word c.args.field c.args.at c.args.raw is k (omega (arith, c.read-size.ensures)));
     }
 
-pub returns-then-is-raw-raw : goal.returns-then-is-raw-raw
-returns-then-is-raw-raw g c =
+pub returns-then-is_raw-raw : goal.returns-then-is_raw-raw
+returns-then-is_raw-raw g c =
     record {
       place = tt;
       sifts = λ gr s x st is k.
           sifts-err
-          (other-field _ _ gr s st x c.args.word c.args.field c.args.at c.args.raw c.is-raw.result is k (omega (arith, c.read-size.ensures)) c.rule-of-rule.result
-          (λ q here kind e. c.rule-of-rule.ensures gr s q st here kind (c.read.ensures ∙ e)) c.is-raw.ensures c.if-is-raw-raw.true);
+          (other-field _ _ gr s st x c.args.word c.args.field c.args.at c.args.raw c.is_raw.result is k (omega (arith, c.read-size.ensures)) c.rule_of-rule.result
+          (λ q here kind e. c.rule_of-rule.ensures gr s q st here kind (c.read.ensures ∙ e)) c.is_raw.ensures c.if-is_raw-raw.true);
     }
 
 pub returns : goal.returns
@@ -28,7 +28,7 @@ returns g c =
       place = omega arith;
       sifts = λ gr s x st is k.
           sifts-ok
-          (good-field _ _ gr s st x c.args.word c.args.field c.args.at c.args.raw c.is-raw.result is k (omega (arith, c.read-size.ensures)) c.rule-of-rule.result
-          (λ q here kind e. c.rule-of-rule.ensures gr s q st here kind (c.read.ensures ∙ e)) c.is-raw.ensures c.if-is-raw-raw.false)
+          (good-field _ _ gr s st x c.args.word c.args.field c.args.at c.args.raw c.is_raw.result is k (omega (arith, c.read-size.ensures)) c.rule_of-rule.result
+          (λ q here kind e. c.rule_of-rule.ensures gr s q st here kind (c.read.ensures ∙ e)) c.is_raw.ensures c.if-is_raw-raw.false)
           (omega arith);
     }

@@ -20,16 +20,16 @@ pub returns-in-Record : goal.returns-in-Record
 returns-in-Record g c gr s x st is =
     let k = c.in-Record.ensures gr s x st is in
     let words = g.M.Memory.words c.args.self.now.space.memory in
-    let size : c.size-in.result ≡ get_or words (c.args.word / 4) 0 / 16 =
-    c.size-in.ensures ∙ ap (λ h. h / 16) (c.read.ensures ∙ ap (λ p. get_or words p 0) c.place-of-place.ensures) in
+    let size : c.size_in.result ≡ get_or words (c.args.word / 4) 0 / 16 =
+    c.size_in.ensures ∙ ap (λ h. h / 16) (c.read.ensures ∙ ap (λ p. get_or words p 0) c.place_of-place.ensures) in
     sifts-ok (more (le-ltb (kind_of gr x) 2 (omega (arith, k))) none)
-    (omega (arith, record-figure _ _ gr s st x c.args.word is (sym k), size, c.saturating-sub.ensures))
+    (omega (arith, record-figure _ _ gr s st x c.args.word is (sym k), size, c.saturating_sub.ensures))
 
 pub returns-in-Layout : goal.returns-in-Layout
 returns-in-Layout g c gr s x st is =
-    let k = c.kind-of.ensures gr s x st is in
+    let k = c.kind_of.ensures gr s x st is in
     let words = g.M.Memory.words c.args.self.now.space.memory in
-    let read = c.read-in-Layout.ensures ∙ ap (λ p. get_or words (p + 1) 0) c.place-of-place.ensures in
+    let read = c.read-in-Layout.ensures ∙ ap (λ p. get_or words (p + 1) 0) c.place_of-place.ensures in
     elim c.in-Layout.is [
       | inl e ↦ class-sifts _ _ gr s x c.args.word c.args.at 3 _ st is (sym (ap kind_number e) ∙ k) (omega arith) read
       | inr e ↦ class-sifts _ _ gr s x c.args.word c.args.at 4 _ st is (sym (ap kind_number e) ∙ k) (omega arith) read

@@ -16,5 +16,5 @@ use Rattle.heap.proofs.Heap.kind.Goals as goal
 pub returns : goal.returns
 returns g c =
     ends _ _ (Kind c.args.handle) _ _ _ refl refl refl λ gr s st.
-    tells-done _ (Kind c.args.handle) _ gr s st (pos (kind_number c.kind-of.result)) (ap (λ (k : ℕ). tells (pos k)) (sym (c.kind-of.ensures gr s (held gr c.args.handle) st (held-means _ _ gr s st c.args.handle c.in-ok-check-handle.ensures.gives))))
-    (all_pass c.in-ok-check-handle.ensures)
+    tells-done _ (Kind c.args.handle) _ gr s st (pos (kind_number c.kind_of.result)) (ap (λ (k : ℕ). tells (pos k)) (sym (c.kind_of.ensures gr s (held gr c.args.handle) st (held-means _ _ gr s st c.args.handle c.in_ok-check_handle.ensures.gives))))
+    (all_pass c.in_ok-check_handle.ensures)

@@ -5,8 +5,8 @@ use Rattle.heap.proofs.Heap.pack.Goals as goal
 pub returns : goal.returns
 returns g c =
     let begins = c.mark-live.ensures in
-    let draws = c.thread-marked.ensures in
-    let closes = c.slide-marked.ensures in
+    let draws = c.thread_marked.ensures in
+    let closes = c.slide_marked.ensures in
     record {
       packs = packs-by g.S.Scheme.meaning _ _ _ _ _ _ _ _ begins.begins begins.scheme draws.draws draws.scheme closes.closes;
       scheme = closes.scheme ∙ draws.scheme ∙ begins.scheme;

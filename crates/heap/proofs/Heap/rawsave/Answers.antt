@@ -11,15 +11,15 @@ use Rattle.heap.proofs.Readings.{held-means, found, raw_word}
 use Rattle.heap.proofs.Exits.{exits, ends}
 use Rattle.heap.proofs.Heap.rawsave.Goals as goal
 
-pub returns-in-err-check-handle : goal.returns-in-err-check-handle
-returns-in-err-check-handle g c =
-    exits _ _ (RawSave c.args.owner c.args.field c.args.raw) _ nothing c.from-residual.result c.from-residual.ensures.1 λ gr s st.
-    stop _ c.in-err-check-handle.ensures
+pub returns-in_err-check_handle : goal.returns-in_err-check_handle
+returns-in_err-check_handle g c =
+    exits _ _ (RawSave c.args.owner c.args.field c.args.raw) _ nothing c.from_residual.result c.from_residual.ensures.1 λ gr s st.
+    stop _ c.in_err-check_handle.ensures
 
-pub returns-in-err-place : goal.returns-in-err-place
-returns-in-err-place g c =
-    exits _ _ (RawSave c.args.owner c.args.field c.args.raw) _ nothing c.from-residual-in-err-place.result c.from-residual-in-err-place.ensures.1 λ gr s st.
-    next c.in-ok-check-handle.ensures (stop _ (c.in-err-place.ensures.sifts gr s (held gr c.args.owner) st (held-means _ _ gr s st c.args.owner c.in-ok-check-handle.ensures.gives)))
+pub returns-in_err-place : goal.returns-in_err-place
+returns-in_err-place g c =
+    exits _ _ (RawSave c.args.owner c.args.field c.args.raw) _ nothing c.from_residual-in_err-place.result c.from_residual-in_err-place.ensures.1 λ gr s st.
+    next c.in_ok-check_handle.ensures (stop _ (c.in_err-place.ensures.sifts gr s (held gr c.args.owner) st (held-means _ _ gr s st c.args.owner c.in_ok-check_handle.ensures.gives)))
 
 pub returns : goal.returns
 returns g c =
@@ -28,11 +28,11 @@ returns g c =
     let now = c.args.self.now in
     let words = g.M.Memory.words now.space.memory in
     let written : g.M.Memory.words c.write.new.self ≡ set words (get_or now.space.handles o 0 / 4 + (2 + i)) c.args.raw =
-    c.write.ensures ∙ ap (λ (p : ℕ). set words p c.args.raw) c.in-ok-place.ensures.place in
+    c.write.ensures ∙ ap (λ (p : ℕ). set words p c.args.raw) c.in_ok-place.ensures.place in
     ends _ _ (RawSave o i c.args.raw) _ _ _ refl refl (ap (λ (ws : List ℕ). parts ws now.space.handles now.low now.high now.limit) written) λ gr s st.
-    let is = held-means _ _ gr s st o c.in-ok-check-handle.ensures.gives in
-    let q = c.in-ok-place.ensures.sifts gr s (held gr o) st is in
+    let is = held-means _ _ gr s st o c.in_ok-check_handle.ensures.gives in
+    let q = c.in_ok-place.ensures.sifts gr s (held gr o) st is in
     let f = found _ _ gr s st (held gr o) _ i 1 2 true is (all_pass q) in
-    written-done _ _ gr s st (position_of (held gr o)) i c.args.raw (raw c.args.raw) f.owner.stands f.owner.rec (omega (arith, f.owner.sized, f.inside)) (refl) c.in-ok-place.place
+    written-done _ _ gr s st (position_of (held gr o)) i c.args.raw (raw c.args.raw) f.owner.stands f.owner.rec (omega (arith, f.owner.sized, f.inside)) (refl) c.in_ok-place.place
     (q.gives ∙ ap (λ (k : ℕ). k + (2 + i)) f.owner.place) (RawSave o i c.args.raw) _ c.write.ensures refl
-    (passed c.in-ok-check-handle.ensures (all_pass q))
+    (passed c.in_ok-check_handle.ensures (all_pass q))

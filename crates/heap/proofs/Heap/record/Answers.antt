@@ -11,52 +11,52 @@ use Rattle.heap.proofs.Objects.{RecordPut, room-exits, fresh-alters, record-done
 use Rattle.heap.proofs.Exits.{exits, ends}
 use Rattle.heap.proofs.Heap.record.Goals as goal
 
-pub returns-in-err-check-handle : goal.returns-in-err-check-handle
-returns-in-err-check-handle g c =
-    exits _ _ (Record c.args.target c.args.layout) _ nothing c.from-residual.result c.from-residual.ensures.1 λ gr s st.
-    stop _ c.in-err-check-handle.ensures
+pub returns-in_err-check_handle : goal.returns-in_err-check_handle
+returns-in_err-check_handle g c =
+    exits _ _ (Record c.args.target c.args.layout) _ nothing c.from_residual.result c.from_residual.ensures.1 λ gr s st.
+    stop _ c.in_err-check_handle.ensures
 
-pub returns-in-err-check-handle-2 : goal.returns-in-err-check-handle-2
-returns-in-err-check-handle-2 g c =
-    exits _ _ (Record c.args.target c.args.layout) _ nothing c.from-residual-in-err-check-handle-2.result c.from-residual-in-err-check-handle-2.ensures.1 λ gr s st.
-    next c.in-ok-check-handle.ensures (stop _ c.in-err-check-handle-2.ensures)
+pub returns-in_err-check_handle-2 : goal.returns-in_err-check_handle-2
+returns-in_err-check_handle-2 g c =
+    exits _ _ (Record c.args.target c.args.layout) _ nothing c.from_residual-in_err-check_handle-2.result c.from_residual-in_err-check_handle-2.ensures.1 λ gr s st.
+    next c.in_ok-check_handle.ensures (stop _ c.in_err-check_handle-2.ensures)
 
-pub returns-in-err-size : goal.returns-in-err-size
-returns-in-err-size g c =
-    exits _ _ (Record c.args.target c.args.layout) _ nothing c.from-residual-in-err-size.result c.from-residual-in-err-size.ensures.1 λ gr s st.
-    next c.in-ok-check-handle.ensures (next c.in-ok-check-handle-2.ensures (stop _ (c.in-err-size.ensures.size gr s (held gr c.args.layout) st (held-means _ _ gr s st c.args.layout c.in-ok-check-handle-2.ensures.gives))))
+pub returns-in_err-size : goal.returns-in_err-size
+returns-in_err-size g c =
+    exits _ _ (Record c.args.target c.args.layout) _ nothing c.from_residual-in_err-size.result c.from_residual-in_err-size.ensures.1 λ gr s st.
+    next c.in_ok-check_handle.ensures (next c.in_ok-check_handle-2.ensures (stop _ (c.in_err-size.ensures.size gr s (held gr c.args.layout) st (held-means _ _ gr s st c.args.layout c.in_ok-check_handle-2.ensures.gives))))
 
-pub returns-in-err-make-room : goal.returns-in-err-make-room
-returns-in-err-make-room g c =
+pub returns-in_err-make_room : goal.returns-in_err-make_room
+returns-in_err-make_room g c =
     let m = g.S.Scheme.meaning c.args.self.now.scheme in
-    room-exits _ _ (Record c.args.target c.args.layout) _ _ nothing c.in-ok-size.size c.args.target (λ gr. fresh_record m gr (position_of (held gr c.args.layout)) (object_of gr (held gr c.args.layout)))
-    c.from-residual-in-err-make-room.result c.from-residual-in-err-make-room.ensures.1 c.in-err-make-room.ensures.rooms c.in-err-make-room.ensures.scheme (λ ne. absurd (ne c.in-err-make-room.ensures.rooms.refusal))
-    λ gr s st. (refl, record-size m gr (held gr c.args.layout) (position_of (held gr c.args.layout)) (eqb-true (kind_of gr (held gr c.args.layout)) 3 (not-false _ (pass-first (all_pass (c.in-ok-size.ensures.size gr s (held gr c.args.layout) st (held-means _ _ gr s st c.args.layout c.in-ok-check-handle-2.ensures.gives)))))) ∙ sym (c.in-ok-size.ensures.size gr s (held gr c.args.layout) st (held-means _ _ gr s st c.args.layout c.in-ok-check-handle-2.ensures.gives)).gives, passed c.in-ok-check-handle.ensures (passed c.in-ok-check-handle-2.ensures (all_pass (c.in-ok-size.ensures.size gr s (held gr c.args.layout) st (held-means _ _ gr s st c.args.layout c.in-ok-check-handle-2.ensures.gives)))))
+    room-exits _ _ (Record c.args.target c.args.layout) _ _ nothing c.in_ok-size.size c.args.target (λ gr. fresh_record m gr (position_of (held gr c.args.layout)) (object_of gr (held gr c.args.layout)))
+    c.from_residual-in_err-make_room.result c.from_residual-in_err-make_room.ensures.1 c.in_err-make_room.ensures.rooms c.in_err-make_room.ensures.scheme (λ ne. absurd (ne c.in_err-make_room.ensures.rooms.refusal))
+    λ gr s st. (refl, record-size m gr (held gr c.args.layout) (position_of (held gr c.args.layout)) (eqb-true (kind_of gr (held gr c.args.layout)) 3 (not-false _ (pass-first (all_pass (c.in_ok-size.ensures.size gr s (held gr c.args.layout) st (held-means _ _ gr s st c.args.layout c.in_ok-check_handle-2.ensures.gives)))))) ∙ sym (c.in_ok-size.ensures.size gr s (held gr c.args.layout) st (held-means _ _ gr s st c.args.layout c.in_ok-check_handle-2.ensures.gives)).gives, passed c.in_ok-check_handle.ensures (passed c.in_ok-check_handle-2.ensures (all_pass (c.in_ok-size.ensures.size gr s (held gr c.args.layout) st (held-means _ _ gr s st c.args.layout c.in_ok-check_handle-2.ensures.gives)))))
 
 pub returns : goal.returns
 returns g c =
     let l = c.args.layout in
-    let n = c.in-ok-size.size in
-    let room = c.in-ok-make-room.ensures.rooms in
-    let put = c.put-record-word.ensures in
-    let counted = c.in-ok-size.ensures.counted in
+    let n = c.in_ok-size.size in
+    let room = c.in_ok-make_room.ensures.rooms in
+    let put = c.put_record-word.ensures in
+    let counted = c.in_ok-size.ensures.counted in
     let small : n ≤ 34 = omega (arith, counted) in
-    let v₁ = view {S = g.row.S.Denot} g.M.Memory.words c.make-room.new.self in
+    let v₁ = view {S = g.row.S.Denot} g.M.Memory.words c.make_room.new.self in
     let placed : RecordPut v₁ _ c.args.target n (take n ((1 + 16 * n) ∷ get_or v₁.handles l 0 ∷ replicate 32 0)) =
     record {
-      memory = put.memory ∙ ap (λ (k : ℕ). putWords v₁.words v₁.low (take n (k ∷ get_or v₁.handles l 0 ∷ replicate 32 0))) (c.header-of.ensures (omega (arith, small)));
+      memory = put.memory ∙ ap (λ (k : ℕ). putWords v₁.words v₁.low (take n (k ∷ get_or v₁.handles l 0 ∷ replicate 32 0))) (c.header_of.ensures (omega (arith, small)));
       handles = λ k. ap₂ (λ (hs : List ℕ) (w : ℕ). set hs c.args.target w) put.handles (put.reference k);
       low = λ k. put.low k small;
       high = put.high;
       limit = put.limit;
     } in
-    ends _ _ (Record c.args.target l) _ _ _ (put.limit ∙ room.limit) (put.scheme ∙ c.in-ok-make-room.ensures.scheme)
+    ends _ _ (Record c.args.target l) _ _ _ (put.limit ∙ room.limit) (put.scheme ∙ c.in_ok-make_room.ensures.scheme)
     (λ k high. fresh-alters _ v₁ _ c.args.target l n counted placed room.roomy k high) λ gr s st.
-    let sifted = c.in-ok-size.ensures.size gr s (held gr l) st (held-means _ _ gr s st l c.in-ok-check-handle-2.ensures.gives) in
-    record-done _ _ gr s st _ _ room.limit (room.later gr s st) c.args.target l n c.in-ok-check-handle-2.ensures.gives
+    let sifted = c.in_ok-size.ensures.size gr s (held gr l) st (held-means _ _ gr s st l c.in_ok-check_handle-2.ensures.gives) in
+    record-done _ _ gr s st _ _ room.limit (room.later gr s st) c.args.target l n c.in_ok-check_handle-2.ensures.gives
     (eqb-true (kind_of gr (held gr l)) 3 (not-false _ (pass-first (all_pass sifted))))
     sifted.gives
     small
-    (passed c.in-ok-check-handle.ensures (passed c.in-ok-check-handle-2.ensures (all_pass sifted)))
+    (passed c.in_ok-check_handle.ensures (passed c.in_ok-check_handle-2.ensures (all_pass sifted)))
     (room.room gr s st)
     placed

@@ -11,20 +11,20 @@ use Rattle.heap.proofs.Readings.{held-means, found, raw_word}
 use Rattle.heap.proofs.Exits.{exits, ends}
 use Rattle.heap.proofs.Heap.save.Goals as goal
 
-pub returns-in-err-check-handle : goal.returns-in-err-check-handle
-returns-in-err-check-handle g c =
-    exits _ _ (Save c.args.owner c.args.field c.args.source) _ nothing c.from-residual.result c.from-residual.ensures.1 λ gr s st.
-    stop _ c.in-err-check-handle.ensures
+pub returns-in_err-check_handle : goal.returns-in_err-check_handle
+returns-in_err-check_handle g c =
+    exits _ _ (Save c.args.owner c.args.field c.args.source) _ nothing c.from_residual.result c.from_residual.ensures.1 λ gr s st.
+    stop _ c.in_err-check_handle.ensures
 
-pub returns-in-err-check-handle-2 : goal.returns-in-err-check-handle-2
-returns-in-err-check-handle-2 g c =
-    exits _ _ (Save c.args.owner c.args.field c.args.source) _ nothing c.from-residual-in-err-check-handle-2.result c.from-residual-in-err-check-handle-2.ensures.1 λ gr s st.
-    next c.in-ok-check-handle.ensures (stop _ c.in-err-check-handle-2.ensures)
+pub returns-in_err-check_handle-2 : goal.returns-in_err-check_handle-2
+returns-in_err-check_handle-2 g c =
+    exits _ _ (Save c.args.owner c.args.field c.args.source) _ nothing c.from_residual-in_err-check_handle-2.result c.from_residual-in_err-check_handle-2.ensures.1 λ gr s st.
+    next c.in_ok-check_handle.ensures (stop _ c.in_err-check_handle-2.ensures)
 
-pub returns-in-err-place : goal.returns-in-err-place
-returns-in-err-place g c =
-    exits _ _ (Save c.args.owner c.args.field c.args.source) _ nothing c.from-residual-in-err-place.result c.from-residual-in-err-place.ensures.1 λ gr s st.
-    next c.in-ok-check-handle.ensures (next c.in-ok-check-handle-2.ensures (stop _ (c.in-err-place.ensures.sifts gr s (held gr c.args.owner) st (held-means _ _ gr s st c.args.owner c.in-ok-check-handle.ensures.gives))))
+pub returns-in_err-place : goal.returns-in_err-place
+returns-in_err-place g c =
+    exits _ _ (Save c.args.owner c.args.field c.args.source) _ nothing c.from_residual-in_err-place.result c.from_residual-in_err-place.ensures.1 λ gr s st.
+    next c.in_ok-check_handle.ensures (next c.in_ok-check_handle-2.ensures (stop _ (c.in_err-place.ensures.sifts gr s (held gr c.args.owner) st (held-means _ _ gr s st c.args.owner c.in_ok-check_handle.ensures.gives))))
 
 pub returns : goal.returns
 returns g c =
@@ -34,11 +34,11 @@ returns g c =
     let now = c.args.self.now in
     let words = g.M.Memory.words now.space.memory in
     let written : g.M.Memory.words c.write.new.self ≡ set words (get_or now.space.handles o 0 / 4 + (2 + i)) (get_or c.args.self.now.space.handles n 0) =
-    c.write.ensures ∙ ap (λ (p : ℕ). set words p (get_or c.args.self.now.space.handles n 0)) c.in-ok-place.ensures.place in
+    c.write.ensures ∙ ap (λ (p : ℕ). set words p (get_or c.args.self.now.space.handles n 0)) c.in_ok-place.ensures.place in
     ends _ _ (Save o i n) _ _ _ refl refl (ap (λ (ws : List ℕ). parts ws now.space.handles now.low now.high now.limit) written) λ gr s st.
-    let is = held-means _ _ gr s st o c.in-ok-check-handle.ensures.gives in
-    let q = c.in-ok-place.ensures.sifts gr s (held gr o) st is in
+    let is = held-means _ _ gr s st o c.in_ok-check_handle.ensures.gives in
+    let q = c.in_ok-place.ensures.sifts gr s (held gr o) st is in
     let f = found _ _ gr s st (held gr o) _ i 1 2 false is (all_pass q) in
-    written-done _ _ gr s st (position_of (held gr o)) i _ (value (held gr n)) f.owner.stands f.owner.rec (omega (arith, f.owner.sized, f.inside)) (held-means _ _ gr s st n c.in-ok-check-handle-2.ensures.gives).word_is c.in-ok-place.place
+    written-done _ _ gr s st (position_of (held gr o)) i _ (value (held gr n)) f.owner.stands f.owner.rec (omega (arith, f.owner.sized, f.inside)) (held-means _ _ gr s st n c.in_ok-check_handle-2.ensures.gives).word_is c.in_ok-place.place
     (q.gives ∙ ap (λ (k : ℕ). k + (2 + i)) f.owner.place) (Save o i n) _ c.write.ensures refl
-    (passed c.in-ok-check-handle.ensures (passed c.in-ok-check-handle-2.ensures (all_pass q)))
+    (passed c.in_ok-check_handle.ensures (passed c.in_ok-check_handle-2.ensures (all_pass q)))

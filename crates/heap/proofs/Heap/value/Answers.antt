@@ -13,21 +13,21 @@ use Rattle.heap.proofs.Readings.{held-means, number_read, part-read, record-figu
 use Rattle.heap.proofs.Exits.{exits, ends}
 use Rattle.heap.proofs.Heap.value.Goals as goal
 
-pub returns-in-err-check-handle : goal.returns-in-err-check-handle
-returns-in-err-check-handle g c =
-    exits _ _ (ValueOf c.args.handle) _ (λ n. n) c.from-residual.result c.from-residual.ensures.1 λ gr s st.
-    stop _ c.in-err-check-handle.ensures
+pub returns-in_err-check_handle : goal.returns-in_err-check_handle
+returns-in_err-check_handle g c =
+    exits _ _ (ValueOf c.args.handle) _ (λ n. n) c.from_residual.result c.from_residual.ensures.1 λ gr s st.
+    stop _ c.in_err-check_handle.ensures
 
-pub returns-in-err-check-kind : goal.returns-in-err-check-kind
-returns-in-err-check-kind g c =
-    exits _ _ (ValueOf c.args.handle) _ (λ n. n) c.from-residual-in-err-check-kind.result c.from-residual-in-err-check-kind.ensures.1 λ gr s st.
-    next c.in-ok-check-handle.ensures (stop _ (c.in-err-check-kind.ensures gr s (held gr c.args.handle) st (held-means _ _ gr s st c.args.handle c.in-ok-check-handle.ensures.gives)))
+pub returns-in_err-check_kind : goal.returns-in_err-check_kind
+returns-in_err-check_kind g c =
+    exits _ _ (ValueOf c.args.handle) _ (λ n. n) c.from_residual-in_err-check_kind.result c.from_residual-in_err-check_kind.ensures.1 λ gr s st.
+    next c.in_ok-check_handle.ensures (stop _ (c.in_err-check_kind.ensures gr s (held gr c.args.handle) st (held-means _ _ gr s st c.args.handle c.in_ok-check_handle.ensures.gives)))
 
 pub returns : goal.returns
 returns g c =
     ends _ _ (ValueOf c.args.handle) _ _ _ refl refl refl λ gr s st.
-    let p = c.in-ok-check-kind.ensures gr s (held gr c.args.handle) st (held-means _ _ gr s st c.args.handle c.in-ok-check-handle.ensures.gives) in
+    let p = c.in_ok-check_kind.ensures gr s (held gr c.args.handle) st (held-means _ _ gr s st c.args.handle c.in_ok-check_handle.ensures.gives) in
     let k = eqb-true (kind_of gr (held gr c.args.handle)) 1 (not-false _ (pass-first (all_pass p))) in
     let fits : SFits w32 c.decode.result = search rules in
-    let e = to_z-of_z w32 c.decode.result fits ∙ number_read _ _ gr s st (held gr c.args.handle) _ c.decode.result (held-means _ _ gr s st c.args.handle c.in-ok-check-handle.ensures.gives) k c.decode.ensures.exact in
-    tells-done _ (ValueOf c.args.handle) _ gr s st _ (ap tells (sym e)) (passed c.in-ok-check-handle.ensures (all_pass p))
+    let e = to_z-of_z w32 c.decode.result fits ∙ number_read _ _ gr s st (held gr c.args.handle) _ c.decode.result (held-means _ _ gr s st c.args.handle c.in_ok-check_handle.ensures.gives) k c.decode.ensures.exact in
+    tells-done _ (ValueOf c.args.handle) _ gr s st _ (ap tells (sym e)) (passed c.in_ok-check_handle.ensures (all_pass p))

@@ -48,12 +48,12 @@ returns-after-loop-turn g c =
       kept = inv.0;
     }
 
-pub returns-in-default : goal.returns-in-default
-returns-in-default g c =
+pub returns-in_default : goal.returns-in_default
+returns-in_default g c =
     let inv = c.loop-turn.invariant in
     record {
       rescanned = λ P limit C roots rounds so e a b all none go.
           let k = inv.1 P limit so C all roots rounds e b (walk_start _ P limit so _ C all roots rounds c.args.from _ _ a none go) in
-          walk_end _ P limit so _ C all roots rounds _ _ c.args.end _ _ b (inl (walk-stop _ P limit so _ C all _ _ k.going.is k.to _ _ c.args.end b k.cursor c.in-default.ensures)) k;
+          walk_end _ P limit so _ C all roots rounds _ _ c.args.end _ _ b (inl (walk-stop _ P limit so _ C all _ _ k.going.is k.to _ _ c.args.end b k.cursor c.in_default.ensures)) k;
       kept = inv.0;
     }

@@ -48,12 +48,12 @@ returns-after-loop-turn g c =
       kept = inv.0;
     }
 
-pub returns-in-default : goal.returns-in-default
-returns-in-default g c =
+pub returns-in_default : goal.returns-in_default
+returns-in_default g c =
     let inv = c.loop-turn.invariant in
     record {
       unmarked = λ m P limit C so e a b all f.
           let k = inv.1 m P limit so C all e b (clear-start m P limit so _ C all c.args.from _ a f) in
-          clear-end m P limit so _ C all _ _ c.args.end _ b (inl (walk-stop m P limit so _ C all _ _ k.fading.is k.to _ _ c.args.end b k.cursor c.in-default.ensures)) k;
+          clear-end m P limit so _ C all _ _ c.args.end _ b (inl (walk-stop m P limit so _ C all _ _ k.fading.is k.to _ _ c.args.end b k.cursor c.in_default.ensures)) k;
       kept = inv.0;
     }
