@@ -8,7 +8,6 @@ use crate::forms::{Answer, CallWords, answer_of, call_of, no_call};
 use heap::Heap;
 use memory::Memory;
 use scheme::Scheme;
-use service::give;
 
 /// Gives the call that five words stand for.
 pub fn give_words<M: Memory, S: Scheme>(heap: &mut Heap<M, S>, words: CallWords) -> Answer
@@ -16,7 +15,7 @@ pub fn give_words<M: Memory, S: Scheme>(heap: &mut Heap<M, S>, words: CallWords)
     ensures scheme { heap.new.scheme ≡ heap.old.scheme }
 {
     match call_of(words) {
-        Some(call) => answer_of(give(heap, call)),
+        Some(call) => answer_of(heap.give(call)),
         None => no_call(),
     }
 }

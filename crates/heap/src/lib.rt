@@ -11,6 +11,7 @@ mod closing;
 mod collecting;
 mod drawing;
 mod fields;
+mod giving;
 mod handles;
 mod making;
 mod opening;

@@ -19,7 +19,6 @@ use report::faults::{CallFault, LineFault, OnLine};
 use report::loads::open_load;
 use report::reports::{Report, output_of, report_of};
 use scheme::{Prefix, Scheme};
-use service::give;
 use std::alloc::{AllocError, Global};
 
 /// The call of a line, given to the heap.
@@ -32,7 +31,7 @@ fn run_text<M: Memory, S: Scheme>(
     ensures scheme { heap.new.scheme ≡ heap.old.scheme }
 {
     let call = parse_line(columns, line)?;
-    let answer = give(heap, call)?;
+    let answer = heap.give(call)?;
     Ok(answer)
 }
 

@@ -11,10 +11,6 @@ use memory::Memory;
 use scheme::Scheme;
 use std::alloc::{AllocError, Global};
 
-mod giving;
-
-pub use giving::{give, run};
-
 /// The answers of a list of calls, one for each, and the heap after it.
 pub struct Served<M: Memory, S: Scheme> {
     pub answers: Vec<Outcome>,
@@ -36,7 +32,7 @@ pub fn serve<M: Memory + Drop, S: Scheme + Drop>(
     let mut answers = Vec::with_capacity(alloc, calls.len())?;
     let mut heap = Heap::new(memory, scheme);
     for call in calls {
-        let (next, answer) = run(heap, *call);
+        let (next, answer) = heap.run(*call);
         heap = next;
         answers.push_reserved(answer);
     }

@@ -40,7 +40,7 @@ fn run<M: Memory + Drop, S: Scheme + Drop>(
     let mut heap = Heap::new(memory, scheme);
     for _ in 0..CALLS {
         let call = load.next_call();
-        let (next, answer) = service::run(heap, call);
+        let (next, answer) = heap.run(call);
         heap = next;
         tally.count(call, answer);
         tally.find(beside.compare(&heap, call, answer));

@@ -5,7 +5,6 @@ use heap::Heap;
 use memory::Memory;
 use model::Rules;
 use scheme::{Mask, Prefix, Scheme};
-use service::run;
 use std::alloc::{AllocError, Global};
 
 /// A heap of so many words, calls with their answers, and words that stand there after the last of them.
@@ -573,7 +572,7 @@ fn holds_over<M: Memory + Drop, S: Scheme + Drop>(
     let mut heap = Heap::new(memory, scheme);
     let mut all = true;
     for (call, outcome) in example.steps {
-        let (next, answer) = run(heap, *call);
+        let (next, answer) = heap.run(*call);
         heap = next;
         let agree = matches!(beside.compare(&heap, *call, answer), Ok(None));
         all = all && agree && answer == *outcome;

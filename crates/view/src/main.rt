@@ -14,7 +14,6 @@ use report::faults::{CallFault, OnLine};
 use report::loads::open_load;
 use report::reports::{Report, report_of};
 use scheme::{Prefix, Scheme};
-use service::give;
 use std::io;
 
 /// The call of a line, given to the heap.
@@ -24,7 +23,7 @@ fn run_text<M: Memory, S: Scheme>(
     line: &[u8],
 ) -> Result<i64, CallFault> {
     let call = parse_line(columns, line)?;
-    let answer = give(heap, call)?;
+    let answer = heap.give(call)?;
     Ok(answer)
 }
 

@@ -17,7 +17,7 @@ use Rattle.service.proofs.serve.Goals as goal
 
 pub loop-call-init : goal.loop-call-init
 loop-call-init g c =
-    let made = c.in-ok-answers.ensures in (
+    let made = c.in_ok-answers.ensures in (
       made.items,
       subst (λ s. Stands (g.S.Scheme.meaning s) (view {S = g.row.S.Denot} g.M.Memory.words c.new-heap.result) bare []) (sym c.new-heap.ensures.scheme) c.new-heap.ensures.stands,
       refl,
@@ -41,13 +41,13 @@ loop-call-preserved g c =
     let meets = c.run-next.ensures in
     let follows : Follows m call v w (outcome_of (λ n. n) r) = subst (λ s. Follows (g.S.Scheme.meaning s) call v w (outcome_of (λ n. n) r)) inv.2 meets.follows in
     let more : take (i + 1) calls ≡ take i calls ++ call ∷ [] = take_more calls i (Num 0 (pos 0)) c.loop-call-test.true in (
-      c.push-reserved.ensures.items ∙ more-told m W (take i calls) call v w r inv.3 inv.1 follows (vec_items c.loop-call.answers) inv.0 ∙ ap (λ cs. (advances m W cs start).0) (sym more),
+      c.push_reserved.ensures.items ∙ more-told m W (take i calls) call v w r inv.3 inv.1 follows (vec_items c.loop-call.answers) inv.0 ∙ ap (λ cs. (advances m W cs start).0) (sym more),
       subst (λ cs. StandsAt m W w (advances m W cs start).1) (sym more) (more-stands m W (take i calls) call v w r inv.3 inv.1 follows),
       meets.scheme ∙ inv.2,
       meets.follows.limit ∙ inv.3,
       more-later m W (take i calls) call v w r inv.3 inv.1 follows ∙ inv.4,
-      omega (arith, c.push-reserved.ensures.len, inv.5),
-      omega (arith, c.push-reserved.ensures.capacity, inv.6),
+      omega (arith, c.push_reserved.ensures.len, inv.5),
+      omega (arith, c.push_reserved.ensures.capacity, inv.6),
     )
 
 pub returns : goal.returns
