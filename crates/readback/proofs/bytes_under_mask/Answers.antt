@@ -6,4 +6,4 @@ use Rattle.readback.proofs.Told.{told, mask-told}
 use Rattle.readback.proofs.bytes_under_mask.Goals as goal
 
 pub returns : goal.returns
-returns c = told vec_items mask mask-told (words_of (replicate 131 0)) _ c.answers.result (length-words (replicate 131 0)) c.stored-calls-calls.ensures c.answers.ensures
+returns c = told vec_items mask mask-told (words_of (replicate 131 0)) _ c.answers.result (length-words (replicate 131 0)) c.stored_calls-calls.ensures c.answers.ensures
