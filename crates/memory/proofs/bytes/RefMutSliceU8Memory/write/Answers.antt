@@ -11,7 +11,7 @@ returns-then-place-self c =
     let small : c.args.word < 2 ^ 32 = omega arith in
     record {
       word =
-          ap (λ (l : List ℕ). words_of (four bs at (get_or l 0 0) (get_or l 1 0) (get_or l 2 0) (get_or l 3 0))) c.to-be-bytes.ensures
+          ap (λ (l : List ℕ). words_of (four bs at (get_or l 0 0) (get_or l 1 0) (get_or l 2 0) (get_or l 3 0))) c.to_be_bytes.ensures
           ∙ words-set bs c.args.place c.args.word small c.if-place-self.true;
       leftover = λ k h. four-other bs at _ _ _ _ k (inr (omega arith));
     }
