@@ -5,9 +5,6 @@ use Rattle.numbers.proofs.natural_of.Goals as goal
 pub returns-in_default : goal.returns-in_default
 returns-in_default c = stops _ _ _ (omega arith) c.loop-b.invariant (search rules)
 
-pub returns-in_default·2 : goal.returns-in_default·2
-returns-in_default·2 c = stops _ _ _ (omega arith) c.loop-b.invariant (search rules)
-
 pub loop-b-preserved : goal.loop-b-preserved
 loop-b-preserved c = more _ _ _ (omega arith) c.loop-b.invariant (search rules)
 
