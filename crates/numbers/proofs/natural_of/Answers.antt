@@ -2,11 +2,8 @@ use Rattle.std.proofs.Common.{arith, rules}
 use Rattle.numbers.proofs.Digits.{more, stops, done}
 use Rattle.numbers.proofs.natural_of.Goals as goal
 
-pub returns-in-default : goal.returns-in-default
-returns-in-default c = stops _ _ _ (omega arith) c.loop-b.invariant (search rules)
-
-pub returns-in-default·2 : goal.returns-in-default·2
-returns-in-default·2 c = stops _ _ _ (omega arith) c.loop-b.invariant (search rules)
+pub returns-in_default : goal.returns-in_default
+returns-in_default c = stops _ _ _ (omega arith) c.loop-b.invariant (search rules)
 
 pub loop-b-preserved : goal.loop-b-preserved
 loop-b-preserved c = more _ _ _ (omega arith) c.loop-b.invariant (search rules)

@@ -8,11 +8,11 @@ use Rattle.load.proofs.names.place_of.Goals as goal
 pub loop-place-init : goal.loop-place-init
 loop-place-init c = further-none _
 
-pub returns-then-is-word : goal.returns-then-is-word
-returns-then-is-word c = ap (λ o. ok_or o NoNames) (found c.args.name.now (held c.args.tokens) c.loop-place.place (said c.at.result) (omega arith) c.at.ensures (sym c.is-word.ensures ∙ c.if-is-word.true) c.loop-place.invariant)
+pub returns-then-is_word : goal.returns-then-is_word
+returns-then-is_word c = ap (λ o. ok_or o NoNames) (found c.args.name.now (held c.args.tokens) c.loop-place.place (said c.at.result) (omega arith) c.at.ensures (sym c.is_word.ensures ∙ c.if-is_word.true) c.loop-place.invariant)
 
 pub loop-place-preserved : goal.loop-place-preserved
-loop-place-preserved c = passed c.args.name.now (held c.args.tokens) c.loop-place.place (said c.at.result) (omega arith) c.at.ensures (sym c.is-word.ensures ∙ c.if-is-word.false) c.loop-place.invariant
+loop-place-preserved c = passed c.args.name.now (held c.args.tokens) c.loop-place.place (said c.at.result) (omega arith) c.at.ensures (sym c.is_word.ensures ∙ c.if-is_word.false) c.loop-place.invariant
 
 pub returns : goal.returns
 returns c = ap (λ o. ok_or o NoNames) (none_left c.args.name.now (held c.args.tokens) c.loop-place.place (omega arith) c.loop-place.invariant)

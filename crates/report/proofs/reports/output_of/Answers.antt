@@ -4,7 +4,7 @@ use Rattle.report.proofs.reports.output_of.Goals as goal
 
 pub loop-report-preserved : goal.loop-report-preserved
 loop-report-preserved c =
-    written-more _ _ c.args.reports.now _ _ _ _ (omega arith) c.loop-report.invariant c.in-ok-push-str.ensures.bytes (c.as-str.ensures.value ∙ c.in-ok-line.ensures.ok)
+    written-more _ _ c.args.reports.now _ _ _ _ (omega arith) c.loop-report.invariant c.in_ok-push_str.ensures.bytes (c.as_str.ensures.value ∙ c.in_ok-line.ensures.ok)
 
 pub returns : goal.returns
 returns c = written_all _ _ c.args.reports.now _ (omega arith) c.loop-report.invariant
