@@ -1,18 +1,18 @@
 -- Which words differ after a call.
-use Rattle.std.proofs.Common.{◌≡◌, ℕ, ◌+◌, ◌-◌, ◌*◌, ◌<◌, ◌≤◌, Bool, true, false, cond, not, eqb, ltb, leb, ◌⊎◌, List, [], ◌∷◌, ◌++◌, map, length, get_or, set, ℤ, Ok, Err, sym, refl, ap, ◌∙◌, subst, ap₂, inl, inr, arith}
+use Rattle.std.proofs.Common.{◌≡◌, ℕ, ◌+◌, ◌*◌, ◌<◌, ◌≤◌, Bool, true, false, cond, not, eqb, ltb, leb, List, [], ◌∷◌, ◌++◌, map, length, get_or, set, ℤ, Ok, sym, refl, ap, ◌∙◌, subst, ap₂, inl, inr, arith}
 use Rattle.std.proofs.lemmas.Bool.{cond-true, cond-false, lt-ltb, le-ltb, leb-false, false≢true}
 use Rattle.scheme.specs.Meaning.{Meaning}
 use Rattle.graph.specs.declared.Call.{Call}
 use Rattle.graph.specs.declared.Call.TheVariants.{Num, Clear, Copy, Map, Layout, Record, Load, Save, RawLoad, RawSave, Kind, Value as ValueOf, Same, Part, Figure, Raws, Collect, Fill, Stepped, GivenUp}
 use Rattle.graph.specs.declared.Refusal.{Refusal}
 use Rattle.graph.specs.declared.Refusal.TheVariants.{NoHandle, NoNumber, TooWide, NoPart, NoRule, OtherKind, NoField, OtherField, Full}
-use Rattle.graph.specs.Graph.{Value, object, Cell, raw, value, Object, a_record, a_layout, a_map, Graph, held, object_at, size, is_record, make, change}
+use Rattle.graph.specs.Graph.{object, Cell, raw, value, Object, a_record, a_layout, a_map, Graph, held, object_at, size, is_record, make, change}
 use Rattle.graph.specs.Reach.{Names, reachable, words_of, live_words}
-use Rattle.graph.specs.Step.{Act, sets, makes, writes, tells, collects, row, full, Outcome, outcome, graph_after, after, position_of, fresh_record, object_in, cells_of, object_of, kind_of, with_cell}
-use Rattle.graph.specs.Words.{between, low_end, high_end, place_of, reference, value_word, field_word, object_words, image, handle_words, packed, packed_handles, put}
-use Rattle.graph.specs.Advance.{State, advance, cleared, standing_after, standing_refused, standing_by, memory_words, handles_words}
-use Rattle.graph.specs.Sound.{Sound, SoundState}
-use Rattle.graph.specs.Altered.{innermost, WithNew, Unaltered, PackedAs, Altered, CallsAlter}
+use Rattle.graph.specs.Step.{Act, sets, makes, writes, tells, collects, row, full, Outcome, outcome, graph_after, position_of, object_in, cells_of, kind_of, with_cell}
+use Rattle.graph.specs.Words.{between, place_of, reference, value_word, field_word, object_words, image, handle_words, put}
+use Rattle.graph.specs.Advance.{State, advance, cleared, standing_refused, standing_by, memory_words, handles_words}
+use Rattle.graph.specs.Sound.{Sound}
+use Rattle.graph.specs.Altered.{WithNew, Unaltered, PackedAs, Altered, CallsAlter}
 use Rattle.graph.proofs.Stays.{Passed, granted, room-made, kind-object, kind-record, object_of-named, fresh-names}
 use Rattle.graph.proofs.Sound.{stands-below, names-out}
 use Rattle.graph.proofs.Rests.{write-handle}

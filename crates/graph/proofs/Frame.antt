@@ -1,14 +1,14 @@
 -- The memory's words around one object: what is read of it, and what a write into it leaves.
-use Rattle.std.proofs.Common.{◌≡◌, ℕ, zero, suc, ◌+◌, ◌-◌, ◌*◌, ◌<◌, ◌≤◌, Bool, true, false, cond, not, ◌&&◌, ◌⊎◌, List, [], ◌∷◌, ◌++◌, map, length, get_or, take, drop, set, replicate, sym, refl, ap, ◌∙◌, subst, ap₂, inl, inr, add-zero, arith, length-append, length-set}
+use Rattle.std.proofs.Common.{◌≡◌, ℕ, zero, suc, ◌+◌, ◌-◌, ◌*◌, ◌<◌, ◌≤◌, Bool, true, false, cond, not, ◌&&◌, List, [], ◌∷◌, ◌++◌, length, get_or, take, drop, set, replicate, sym, refl, ap, ◌∙◌, ap₂, inl, inr, add-zero, arith, length-append, length-set}
 use mathlib.Core.Path.{fun_ext}
 use lib.ListN.{length-replicate}
-use Rattle.std.proofs.lemmas.Bool.{false≢true, cases_Bool, cond-true, cond-false, cases_eq, cases_lt}
+use Rattle.std.proofs.lemmas.Bool.{false≢true, cases_Bool, cond-true, cond-false, cases_eq}
 use Rattle.std.proofs.lemmas.List.{append_assoc, length-map, take_at, drop_at, get_or-append-add, get_or_append_left, set-append_left, set-append_right, get_or-set_same, get_or-set_other, map-set}
-use Rattle.graph.specs.Graph.{Value, empty, number, object, Cell, raw, value, Object, a_record, a_layout, a_map, Graph, object_at, change, size, is_record}
+use Rattle.graph.specs.Graph.{Cell, Object, a_record, a_layout, a_map, Graph, object_at, change, size, is_record}
 use Rattle.graph.specs.Step.{with_cell}
 use Rattle.graph.specs.Reach.{total, chosen_size, words_of}
-use Rattle.graph.specs.Words.{upward, downward, record_stands, class_stands, record_size, class_size, place_of, between, reference, header, header_kind, value_word, field_word, body_words, object_words, words_at, record_words, class_words, image}
-use Rattle.graph.proofs.Piles.{Alike, upward-same, downward-same, length-upward, length-downward, total-le, upward-frame, downward-frame}
+use Rattle.graph.specs.Words.{upward, downward, record_stands, class_stands, record_size, class_size, place_of, between, reference, header, header_kind, field_word, body_words, object_words, words_at, record_words, class_words, image}
+use Rattle.graph.proofs.Piles.{Alike, upward-same, downward-same, length-upward, length-downward, upward-frame, downward-frame}
 
 -- Graphs of one shape have their objects in the same places.
 

@@ -1,14 +1,13 @@
 -- A new object: the words of the older ones stay, and the new one's stand innermost on its side.
-use Rattle.std.proofs.Common.{◌≡◌, ℕ, zero, suc, ◌+◌, ◌-◌, ◌*◌, ◌<◌, ◌≤◌, Bool, true, false, cond, not, ◌&&◌, ◌⊎◌, List, [], ◌∷◌, ◌++◌, map, length, get_or, take, drop, set, replicate, sym, refl, ap, ◌∙◌, subst, ap₂, inl, inr, add-zero, arith, length-append, length-set}
-use mathlib.Core.Path.{fun_ext}
+use Rattle.std.proofs.Common.{◌≡◌, ℕ, zero, suc, ◌+◌, ◌-◌, ◌*◌, ◌<◌, ◌≤◌, Bool, true, false, cond, not, ◌&&◌, List, [], ◌∷◌, ◌++◌, map, length, get_or, set, replicate, sym, refl, ap, ◌∙◌, subst, ap₂, inl, inr, arith, length-append}
 use lib.ListN.{length-replicate}
-use Rattle.std.proofs.lemmas.Bool.{false≢true, cases_Bool, cond-true, cond-false, cases_eq, cases_lt}
-use Rattle.std.proofs.lemmas.List.{append-nil, append_assoc, length-map, get_or_append_left, get_or_push, length_push, map-set, set_at, nil_from_length, replicate-append-replicate}
+use Rattle.std.proofs.lemmas.Bool.{cases_Bool, cond-true, cond-false}
+use Rattle.std.proofs.lemmas.List.{append-nil, append_assoc, get_or_append_left, get_or_push, length_push, map-set, set_at, nil_from_length, replicate-append-replicate}
 use Rattle.graph.specs.Graph.{Value, empty, number, object, Cell, raw, value, Object, a_record, a_layout, a_map, Graph, held, object_at, make, size, is_record}
 use Rattle.graph.specs.Reach.{Names, its_layout, its_field, its_map, its_name, its_parent, total, chosen_size, words_of}
-use Rattle.graph.specs.Words.{upward, downward, record_stands, class_stands, record_size, class_size, place_of, between, low_end, high_end, reference, header, header_kind, value_word, field_word, body_words, object_words, words_at, record_words, class_words, image, handle_words, put}
-use Rattle.graph.proofs.Piles.{upward-same, downward-same, length-upward, length-downward, total-le}
-use Rattle.graph.proofs.Frame.{length-object_words, block_on, block-off, length-record_words, length-class_words, total-sides}
+use Rattle.graph.specs.Words.{upward, downward, record_size, class_size, place_of, between, low_end, high_end, reference, header, header_kind, value_word, field_word, body_words, object_words, words_at, record_words, class_words, image, handle_words, put}
+use Rattle.graph.proofs.Piles.{upward-same, downward-same, length-upward}
+use Rattle.graph.proofs.Frame.{length-object_words, block_on, block-off, length-record_words, total-sides}
 
 -- An object's words speak of what it names.
 

@@ -1,14 +1,14 @@
 -- What was stored is read back.
-use Rattle.std.proofs.Common.{◌≡◌, ℕ, ◌+◌, ◌<◌, ◌≤◌, Bool, true, false, cond, not, eqb, ltb, leb, List, [], ◌∷◌, length, get_or, set, ℤ, pos, Ok, Err, sym, refl, ap, ◌∙◌, subst, ap₂, arith, length-set, get_or-set_same}
-use Rattle.std.proofs.lemmas.Bool.{cond-false, ltb-false, leb-false, lt-leb, le-ltb, false≢true}
+use Rattle.std.proofs.Common.{◌≡◌, ℕ, ◌<◌, Bool, false, not, eqb, leb, List, [], ◌∷◌, length, get_or, set, pos, Ok, sym, refl, ap, ◌∙◌, subst, arith, length-set, get_or-set_same}
+use Rattle.std.proofs.lemmas.Bool.{cond-false, ltb-false, leb-false, lt-leb, le-ltb}
 use Rattle.scheme.specs.Meaning.{Meaning}
 use Rattle.graph.specs.declared.Call.TheVariants.{Num, Load, Save, RawLoad, RawSave, Value as ValueOf}
-use Rattle.graph.specs.declared.Refusal.TheVariants.{NoHandle, OtherKind, NoField, OtherField}
-use Rattle.graph.specs.Graph.{Value, empty, number, object, Cell, raw, value, Object, a_record, a_layout, a_map, Graph, held, object_at, hold, change, is_record}
+use Rattle.graph.specs.declared.Refusal.TheVariants.{OtherKind}
+use Rattle.graph.specs.Graph.{Value, empty, number, object, Cell, raw, value, Object, a_record, a_layout, a_map, Graph, held, object_at, hold, change}
 use Rattle.graph.specs.Step.{Outcome, outcome, step, graph_after, row, judge, handle, ◌refuses◌, kind_of, object_kind, object_of, position_of, cells_of, raw_cell, cell_word, cell_value, number_of, with_cell}
 use Rattle.graph.specs.Sound.{Sound}
 use Rattle.graph.specs.ReadBack.{NumbersKept, RawWordsKept, ValuesKept}
-use Rattle.graph.proofs.Stays.{Passed, granted, kind-object, kind-record, object_of-named}
+use Rattle.graph.proofs.Stays.{granted, kind-object, object_of-named}
 use Rattle.graph.proofs.Sound.{stands-below}
 use Rattle.graph.proofs.Frame.{written-here}
 

@@ -1,19 +1,18 @@
 -- What is read of a heap at rest.
-use Rattle.std.proofs.Common.{◌≡◌, ℕ, zero, suc, ◌+◌, ◌-◌, ◌*◌, ◌/◌, ◌%◌, ◌<◌, ◌≤◌, Bool, true, false, cond, not, ◌&&◌, ◌⊎◌, List, [], ◌∷◌, ◌++◌, map, length, get_or, take, set, ℤ, Ok, Err, sym, refl, ap, ◌∙◌, subst, ap₂, inl, inr, add-zero, arith}
+use Rattle.std.proofs.Common.{◌≡◌, ℕ, suc, ◌+◌, ◌-◌, ◌/◌, ◌%◌, ◌<◌, ◌≤◌, Bool, true, false, List, [], length, get_or, take, set, ℤ, Ok, Err, sym, refl, ap, ◌∙◌, subst, inl, inr, add-zero, arith}
 use Rattle.std.proofs.lemmas.Bool.{cases_Bool, cond-true, cond-false}
-use Rattle.std.proofs.lemmas.List.{get_or-take, get_or-map, length-map, map-set}
+use Rattle.std.proofs.lemmas.List.{get_or-take, get_or-map, map-set}
 use Rattle.graph.specs.Graph.{Value, empty, number, object, Object, a_record, a_layout, a_map, Graph, held, object_at, size, is_record}
 use Rattle.scheme.specs.Meaning.{Meaning}
 use Rattle.graph.specs.Reach.{total, words_of}
 use Rattle.graph.specs.Step.{object_kind, kind_of}
-use Rattle.graph.specs.Words.{record_size, class_size, place_of, reference, header, header_kind, value_word, body_words, object_words, words_at, image, handle_words}
-use Rattle.graph.specs.Sound.{Sound}
+use Rattle.graph.specs.Words.{record_size, class_size, place_of, reference, header, header_kind, value_word, words_at, image, handle_words}
 use Rattle.graph.specs.Laws.{Fitting}
 use Rattle.graph.specs.Rests.{Rests, state, Does}
 use Rattle.graph.specs.declared.Call.{Call}
 use Rattle.graph.specs.declared.Refusal.{Refusal}
-use Rattle.graph.specs.Step.{Act, sets, row, Outcome, outcome, graph_after, after}
-use Rattle.graph.specs.Advance.{State, advance, standing_by, standing_after, standing_refused}
+use Rattle.graph.specs.Step.{row, Outcome, outcome, graph_after, after}
+use Rattle.graph.specs.Advance.{standing_by, standing_after, standing_refused}
 use Rattle.graph.specs.Graph.{hold}
 use Rattle.graph.proofs.Stays.{stays-sound}
 use Rattle.graph.proofs.Piles.{total-le}

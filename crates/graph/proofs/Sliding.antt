@@ -1,9 +1,9 @@
 -- Sliding, by the places of before.
-use Rattle.std.proofs.Common.{◌≡◌, ℕ, zero, suc, ◌+◌, ◌-◌, ◌<◌, ◌≤◌, Bool, true, false, cond, not, ◌&&◌, ltb, ◌⊎◌, List, length, get_or, sym, refl, ap, ◌∙◌, subst, ap₂, inl, inr, arith}
-use Rattle.std.proofs.lemmas.Bool.{cases_Bool, cases_lt, cases_eq, and_parts, ltb-true, lt-ltb, le-ltb, cond-true, cond-false, false≢true}
+use Rattle.std.proofs.Common.{◌≡◌, ℕ, zero, suc, ◌+◌, ◌-◌, ◌<◌, ◌≤◌, Bool, true, false, cond, not, ◌&&◌, ltb, List, length, get_or, sym, refl, ap, ◌∙◌, inl, inr, arith}
+use Rattle.std.proofs.lemmas.Bool.{cases_Bool, cases_lt, cases_eq, and_parts, lt-ltb, le-ltb, cond-true, cond-false, false≢true}
 use Rattle.scheme.specs.Meaning.{Meaning}
 use Rattle.graph.specs.Graph.{Graph, object_at, size, is_record}
-use Rattle.graph.specs.Reach.{Reachable, reachable, total, chosen_size, words_of}
+use Rattle.graph.specs.Reach.{reachable, total, chosen_size, words_of}
 use Rattle.graph.specs.Words.{record_stands, class_stands, record_size, class_size, place_of}
 use Rattle.graph.specs.Sound.{Sound}
 use Rattle.graph.specs.Sliding.{kept_left, kept_right, Slides, KeptSlide, ReachableSlide}

@@ -1,12 +1,12 @@
 -- Which words differ after a call, of a heap at rest with a graph and what stands of it.
-use Rattle.std.specs.Prelude.{◌≡◌, ℕ, ◌+◌, ◌-◌, ◌*◌, ◌<◌, ◌≤◌, Bool, true, false, cond, List, [], ℤ, Ok, Err, ◌≢◌, slice_set}
+use Rattle.std.specs.Prelude.{◌≡◌, ℕ, ◌+◌, ◌-◌, ◌*◌, ◌<◌, ◌≤◌, Bool, false, cond, List, [], ℤ, Ok, Err, ◌≢◌, slice_set}
 use Rattle.scheme.specs.Meaning.{Meaning}
 use Rattle.graph.specs.declared.Call.{Call}
 use Rattle.graph.specs.declared.Refusal.{Refusal}
 use Rattle.graph.specs.declared.Refusal.TheVariants.{Full}
 use Rattle.graph.specs.Graph.{Value, Cell, Object, Graph, size, is_record}
 use Rattle.graph.specs.Reach.{reachable}
-use Rattle.graph.specs.Step.{Act, sets, makes, writes, tells, collects, row, Outcome}
+use Rattle.graph.specs.Step.{sets, makes, writes, tells, collects, row, Outcome}
 use Rattle.graph.specs.Words.{between, low_end, high_end, place_of, reference, value_word, field_word, object_words, image, handle_words, packed, packed_handles, put}
 use Rattle.graph.specs.Advance.{State, advance, memory_words, handles_words}
 use Rattle.graph.specs.Sound.{SoundState}

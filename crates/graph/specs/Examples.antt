@@ -1,13 +1,10 @@
 -- Worked examples, computed from the definitions.
-use Rattle.std.specs.Prelude.{◌≡◌, ℕ, ◌^◌, Bool, true, false, List, [], ◌∷◌, ◌++◌, map, replicate, ℤ, pos, negsuc, Ok, Err, slice_index}
+use Rattle.std.specs.Prelude.{◌≡◌, ℕ, ◌^◌, true, false, List, [], ◌∷◌, ◌++◌, map, replicate, ℤ, pos, negsuc, Ok, Err, slice_index}
 use Rattle.std.specs.List.{range_with_len}
 use Rattle.graph.specs.declared.Call.{Call}
-use Rattle.graph.specs.declared.Call.TheVariants.{Num, Clear, Copy, Map, Layout, Record, Load, Save, RawLoad, RawSave, Kind, Value as ValueOf, Same, Part, Figure, Raws, Collect, Fill, Stepped, GivenUp}
-use Rattle.graph.specs.declared.Refusal.{Refusal}
-use Rattle.graph.specs.declared.Refusal.TheVariants.{NoHandle, NoNumber, TooWide, NoPart, NoRule, OtherKind, NoField, OtherField, Full}
-use Rattle.graph.specs.Graph.{bare}
+use Rattle.graph.specs.declared.Call.TheVariants.{Num, Clear, Map, Layout, Record, Load, Save, Value as ValueOf, Collect, Fill}
 use Rattle.scheme.specs.Meaning.{Meaning, prefix, mask, is_raw}
-use Rattle.graph.specs.Step.{Outcome, outcome, run}
+use Rattle.graph.specs.Step.{Outcome}
 use Rattle.graph.specs.Numbers.{refusal_number, refusal_position}
 use Rattle.graph.specs.Words.{number_word}
 use Rattle.graph.specs.Advance.{State, start, advances, memory_words, handles_words}

@@ -1,5 +1,5 @@
 -- What was stored is read back: numbers, raw words, and values of fields, references among them.
-use Rattle.std.specs.Prelude.{◌≡◌, ℕ, ◌≤◌, Bool, List, length, ℤ, pos, Ok}
+use Rattle.std.specs.Prelude.{◌≡◌, ℕ, ◌≤◌, Bool, List, ℤ, pos, Ok}
 use Rattle.scheme.specs.Meaning.{Meaning}
 use Rattle.graph.specs.declared.Call.TheVariants.{Num, Load, Save, RawLoad, RawSave, Value as ValueOf}
 use Rattle.graph.specs.Graph.{Graph, held}

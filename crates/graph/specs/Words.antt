@@ -1,5 +1,5 @@
 -- Words at rest: the memory's words and the handles' words for a graph, of which some objects stand in the memory.
-use Rattle.std.specs.Prelude.{ℕ, zero, suc, ◌+◌, ◌-◌, ◌*◌, ◌%◌, ◌^◌, Bool, true, false, cond, not, ◌&&◌, List, [], ◌∷◌, ◌++◌, map, length, replicate, ℤ, pos, negsuc, slice_index_or, slice_set}
+use Rattle.std.specs.Prelude.{ℕ, zero, suc, ◌+◌, ◌-◌, ◌*◌, ◌%◌, ◌^◌, Bool, false, cond, not, ◌&&◌, List, [], ◌∷◌, ◌++◌, map, length, replicate, ℤ, pos, negsuc, slice_index_or, slice_set}
 use Rattle.graph.specs.Graph.{Value, empty, number, object, Cell, raw, value, Object, a_record, a_layout, a_map, Graph, object_at, size, is_record}
 use Rattle.graph.specs.Reach.{total, words_of, reachable}
 

@@ -1,17 +1,17 @@
 -- What a call does to a heap at rest.
-use Rattle.std.proofs.Common.{◌≡◌, ℕ, ◌+◌, ◌-◌, ◌*◌, ◌<◌, ◌≤◌, min, Bool, true, false, cond, ltb, List, [], ◌∷◌, ◌++◌, map, length, get_or, take, drop, set, ℤ, pos, Ok, Err, sym, refl, ap, ◌∙◌, subst, ap₂, arith, length-set}
+use Rattle.std.proofs.Common.{◌≡◌, ℕ, ◌+◌, ◌-◌, ◌<◌, min, Bool, true, false, List, [], map, length, get_or, take, drop, set, ℤ, pos, Ok, Err, sym, refl, ap, ◌∙◌, subst, ap₂, arith, length-set}
 use Rattle.std.proofs.lemmas.List.{drop-set-lt}
 use Rattle.scheme.specs.Meaning.{Meaning}
 use Rattle.graph.specs.declared.Call.{Call}
 use Rattle.graph.specs.declared.Refusal.{Refusal}
 use Rattle.graph.specs.declared.Refusal.TheVariants.{Full}
-use Rattle.graph.specs.Graph.{Value, Cell, Object, Graph, object_at, is_record, size, hold, held}
-use Rattle.graph.specs.Reach.{reachable, live_words, words_of, total}
+use Rattle.graph.specs.Graph.{Value, Cell, Graph, object_at, is_record, size, hold}
+use Rattle.graph.specs.Reach.{reachable, total}
 use lib.Seq.{take-set-lt}
-use Rattle.graph.specs.Step.{Act, sets, makes, writes, tells, collects, row, full, answer, after, Outcome, outcome, graph_after, with_cell}
+use Rattle.graph.specs.Step.{Act, sets, writes, tells, row, full, answer, after, Outcome, outcome, graph_after}
 use Rattle.graph.specs.Words.{low_end, high_end, place_of, reference, value_word, field_word, image, handle_words}
-use Rattle.graph.specs.Advance.{standing_after, standing_refused, standing_by, cleared, advance}
-use Rattle.graph.specs.Rests.{Rests, state}
+use Rattle.graph.specs.Advance.{standing_after, standing_by, advance}
+use Rattle.graph.specs.Rests.{state}
 use Rattle.graph.specs.Sound.{Sound}
 use Rattle.graph.proofs.Stays.{stays-sound}
 use Rattle.graph.proofs.Rests.{write-handle, place-fits}

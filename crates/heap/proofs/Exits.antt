@@ -1,5 +1,5 @@
 -- The exits of a call.
-use Rattle.std.proofs.Common.{◌≡◌, ℕ, Bool, List, ℤ, IsErrAnd, Ok, Err, Result, sym, refl, ap, ◌∙◌, subst}
+use Rattle.std.proofs.Common.{◌≡◌, ℕ, Bool, List, ℤ, IsErrAnd, Err, Result, sym, refl, ap, ◌∙◌, subst}
 use Rattle.std.proofs.lemmas.Result.{err_from_is_err_and}
 use Rattle.scheme.specs.Meaning.{Meaning}
 use Rattle.graph.specs.declared.Call.{Call}

@@ -1,12 +1,11 @@
 -- A new object.
-use Rattle.std.proofs.Common.{◌≡◌, ℕ, suc, ◌+◌, ◌-◌, ◌*◌, ◌<◌, ◌≤◌, min, Bool, true, false, cond, not, ◌&&◌, ltb, ◌⊎◌, List, [], ◌∷◌, ◌++◌, map, length, get_or, take, drop, set, replicate, ℤ, pos, IsErrAnd, Ok, Err, Result, sym, refl, ap, ◌∙◌, subst, ap₂, inl, inr, add-zero, arith, length-set}
+use Rattle.std.proofs.Common.{◌≡◌, ℕ, suc, ◌+◌, ◌-◌, ◌*◌, ◌<◌, ◌≤◌, min, Bool, true, false, cond, not, ◌&&◌, ltb, List, [], ◌∷◌, ◌++◌, map, length, get_or, take, drop, set, replicate, ℤ, pos, IsErrAnd, Ok, Err, Result, sym, refl, ap, ◌∙◌, subst, ap₂, inl, inr, add-zero, arith, length-set}
 use lib.Seq.{take-set-lt}
-use Rattle.std.proofs.lemmas.Bool.{cases_Bool, cond-true, cond-false, ltb-true, ltb-false, lt-ltb, le-ltb, not_from_true, eq-eqb}
+use Rattle.std.proofs.lemmas.Bool.{cases_Bool, cond-true, cond-false, lt-ltb, le-ltb, not_from_true, eq-eqb}
 use Rattle.std.proofs.lemmas.List.{drop-set-lt, take-replicate, length-map}
 use Rattle.scheme.specs.Meaning.{Meaning, is_raw}
 use Rattle.graph.specs.declared.Call.{Call}
 use Rattle.graph.specs.declared.Refusal.{Refusal}
-use Rattle.graph.specs.declared.Refusal.TheVariants.{Full}
 use Rattle.graph.specs.Graph.{Value, empty, number, object, Object, a_record, a_layout, a_map, Graph, held, object_at, is_record, size, make}
 use Rattle.std.specs.List.{range_with_len}
 use Rattle.std.proofs.lemmas.List.FromFn.{length-map-range_with_len}
@@ -14,12 +13,11 @@ use Rattle.heap.specs.Checks.{map_of}
 use Rattle.graph.specs.declared.Call.TheVariants.{Map, Layout, Record}
 use Rattle.graph.proofs.Rests.{read-handle}
 use Rattle.graph.specs.Reach.{Names, reachable, live_words, words_of, total}
-use Rattle.graph.specs.Step.{Act, makes, row, full, Outcome, position_of, object_of, object_kind, kind_of, figure_of, fresh_cell, fresh_cells, fresh_record}
-use Rattle.graph.specs.Words.{put, record_size, class_size, low_end, high_end, between, place_of, reference, object_words, image, handle_words, header, value_word, field_word}
+use Rattle.graph.specs.Step.{makes, row, position_of, object_of, object_kind, kind_of, figure_of, fresh_cell, fresh_cells, fresh_record}
+use Rattle.graph.specs.Words.{put, record_size, class_size, low_end, high_end, between, place_of, reference, object_words, image, header, value_word, field_word}
 use Rattle.graph.specs.Advance.{cleared}
 use Rattle.graph.proofs.Grow.{Within, allocated, new-place, new-handles, new-object, new-standing, old-objects, old-standing, below-record_size, below-class_size, total-same, length_more, between_ends}
 use Rattle.graph.proofs.Frame.{total-sides, length-object_words, size-pos}
-use Rattle.graph.proofs.Laws.{full-collects}
 use Rattle.graph.proofs.Stays.{room-made, kind-object, fresh-names}
 use Rattle.graph.proofs.Sound.{stands-below, live-le, names-out}
 use Rattle.graph.specs.Sound.{Sound}

@@ -1,24 +1,23 @@
 -- What is read of the words of a heap at rest.
-use Rattle.std.proofs.Common.{◌≡◌, ℕ, zero, suc, ◌+◌, ◌-◌, ◌*◌, ◌/◌, ◌%◌, ◌<◌, ◌≤◌, min, Bool, true, false, cond, not, eqb, ltb, leb, ◌≢◌, ◌⊎◌, List, [], ◌∷◌, ◌++◌, map, length, get_or, take, drop, set, ℤ, pos, sym, refl, ap, ◌∙◌, subst, ap₂, inl, inr, add-zero, arith}
+use Rattle.std.proofs.Common.{◌≡◌, ℕ, zero, suc, ◌+◌, ◌-◌, ◌/◌, ◌%◌, ◌<◌, ◌≤◌, Bool, true, false, cond, not, leb, ◌⊎◌, List, [], ◌∷◌, length, get_or, ℤ, sym, refl, ap, ◌∙◌, subst, ap₂, inl, inr, add-zero, arith}
 use mathlib.Core.Bool.{beq}
-use Rattle.std.proofs.lemmas.Bool.{cond-true, cond-false, false≢true, cases_Bool, cases_lt, not_from_false, ne_eqb, eq-eqb, le-leb, lt-leb, eqb-true, not-false, leb-false}
-use Rattle.std.proofs.lemmas.List.{get_or-map, length-map}
+use Rattle.std.proofs.lemmas.Bool.{cond-true, false≢true, cases_Bool, cases_lt, le-leb, lt-leb, eqb-true, not-false, leb-false}
+use Rattle.std.proofs.lemmas.List.{get_or-map}
 use Rattle.scheme.specs.Meaning.{Meaning, is_raw, raws}
 use Rattle.graph.specs.Graph.{Value, empty, number, object, Cell, raw, value, Object, a_record, a_layout, a_map, Graph, held, object_at, is_record, size}
-use Rattle.graph.specs.Reach.{Names, its_layout, its_map, its_name, its_parent}
+use Rattle.graph.specs.Reach.{Names, its_layout, its_map}
 use Rattle.graph.specs.Step.{object_kind, kind_of, object_of, position_of, cells_of, raw_cell, cell_value, cell_word, figure_of, part_kind, part_of, number_of, in_range, layout_raws}
-use Rattle.graph.specs.Words.{place_of, reference, header, header_kind, value_word, field_word, object_words, words_at, number_word}
+use Rattle.graph.specs.Words.{place_of, reference, header, value_word, field_word, object_words, number_word}
 use Rattle.graph.specs.Sound.{FieldsOf, Formed}
-use Rattle.graph.specs.Laws.{Fitting}
 use Rattle.graph.proofs.Laws.{numbers-encoded, references-read, headers-read}
-use Rattle.graph.proofs.Sound.{stands-below, record-kind}
-use Rattle.graph.proofs.Rests.{read-rests, read-header, read-handle, held_fits, tell-kind, kind-below, kind-numbered, Told}
+use Rattle.graph.proofs.Sound.{stands-below}
+use Rattle.graph.proofs.Rests.{read-rests, read-handle, held_fits, tell-kind, Told}
 use Rattle.heap.specs.Effects.{View}
 use Rattle.heap.specs.Views.{Stands, Means}
 use Rattle.heap.proofs.Judging.{pass-first, pass-rest}
 use Rattle.heap.specs.Effects.{part_offset}
 use Rattle.heap.specs.Checks.{map_of, is_kind, has_field, is_sort, Passes, none, more, Stopped, stops_here, stops_later}
-use Rattle.graph.specs.declared.Refusal.TheVariants.{OtherKind, NoField, OtherField}
+use Rattle.graph.specs.declared.Refusal.TheVariants.{NoField, OtherField}
 
 apart : (b sort : Bool) → not (beq b sort) ≡ true → cond sort (not b) b ≡ true
 apart true true ne = ne

@@ -1,9 +1,9 @@
 -- A collection, step by step, on views.
-use Rattle.std.proofs.Common.{◌≡◌, ℕ, ◌+◌, ◌-◌, ◌<◌, ◌≤◌, min, Bool, true, false, List, [], ◌∷◌, ◌++◌, length, get_or, take, drop, ℤ, pos, Ok, sym, refl, ap, ◌∙◌, subst, ap₂, arith, length-append, length-drop}
+use Rattle.std.proofs.Common.{◌≡◌, ℕ, ◌≤◌, min, Bool, List, [], ◌++◌, length, take, drop, ℤ, pos, Ok, sym, refl, ap, ◌∙◌, subst, ap₂, arith, length-append, length-drop}
 use Rattle.std.proofs.lemmas.List.{take_at, drop_at, take-append-drop}
 use Rattle.scheme.specs.Meaning.{Meaning}
 use Rattle.graph.specs.Graph.{Graph}
-use Rattle.graph.specs.Reach.{reachable, live_words, words_of}
+use Rattle.graph.specs.Reach.{reachable, live_words}
 use Rattle.graph.specs.Words.{low_end, high_end, image, handle_words}
 use Rattle.graph.specs.Rests.{Rests}
 use Rattle.graph.specs.declared.Call.{Call}
@@ -18,10 +18,10 @@ use Rattle.space.specs.Collect.{Ended}
 use Rattle.space.specs.Collect as collect
 use Rattle.space.specs.Weave.{Kept}
 use Rattle.heap.specs.Effects.{View, parts}
-use Rattle.heap.specs.Views.{Stands, Done, Follows, Packed, Packs, Tells}
+use Rattle.heap.specs.Views.{Stands, Done, Follows, Packs, Tells}
 use Rattle.heap.specs.Checks.{Passes, none}
 use Rattle.heap.proofs.Acts.{shows, granted-done, tells-done}
-use Rattle.heap.specs.Phases.{BegunAs, DrawnAs, Begins, Draws, Closes, GivesUp}
+use Rattle.heap.specs.Phases.{Begins, Draws, Closes, GivesUp}
 
 -- a heap at rest, by its words and the later ones
 pub stands_from : (m : Meaning) (v : View) (g : Graph) (s : List Bool) (rest : List ℕ) → Sound m v.limit g s → v.words ≡ image v.limit g s [] ++ rest → v.handles ≡ handle_words v.limit g s → v.limit ≡ min (length v.words) 16384 → v.low ≡ low_end g s → v.high ≡ high_end v.limit g s → Stands m v g s × (drop v.limit v.words ≡ rest)

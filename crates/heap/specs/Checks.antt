@@ -1,9 +1,9 @@
 -- Conditions that stop a call, as code finds them.
-use Rattle.std.specs.Prelude.{◌≡◌, ℕ, zero, suc, Bool, true, false, cond, not, ◌||◌, List, [], ◌∷◌, length, pos, IfOk, Ok, Err, Result, ◌==◌, nat_le, nat_lt, slice_index_or}
+use Rattle.std.specs.Prelude.{◌≡◌, ℕ, Bool, true, false, cond, not, ◌||◌, List, [], ◌∷◌, length, pos, IfOk, Ok, Err, Result, ◌==◌, nat_le, nat_lt, slice_index_or}
 use Rattle.graph.specs.declared.Refusal.TheVariants.{OtherKind, NoField, OtherField}
 use Rattle.graph.specs.declared.Refusal.{Refusal}
 use Rattle.graph.specs.Step.{Check, ◌refuses◌, Outcome, judge, kind_of, cells_of, object_of, raw_cell}
-use Rattle.graph.specs.Graph.{Graph, Value, raw, Object, a_record, a_layout, a_map, object_at}
+use Rattle.graph.specs.Graph.{Graph, Value, raw, Object, a_record, a_layout, a_map}
 
 -- the outcome where the conditions alone decide
 abbrev pub passing : {X : Type 0} → Result X Refusal → Outcome

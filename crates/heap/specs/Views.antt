@@ -1,5 +1,5 @@
 -- What a heap's words, handles and ends say of the graph, and what a call promises.
-use Rattle.std.specs.Prelude.{◌≡◌, ℕ, ◌+◌, ◌-◌, ◌*◌, ◌≤◌, min, Bool, true, false, cond, List, [], ◌∷◌, length, drop, ℤ, pos, IfErr, Ok, Err, Result, nat_lt}
+use Rattle.std.specs.Prelude.{◌≡◌, ℕ, ◌+◌, ◌-◌, ◌≤◌, min, Bool, true, false, cond, List, length, drop, ℤ, pos, IfErr, Ok, Err, Result, nat_lt}
 use Rattle.scheme.specs.Meaning.{Meaning}
 use Rattle.graph.specs.declared.Call.{Call}
 use Rattle.graph.specs.declared.Refusal.{Refusal}
@@ -7,7 +7,7 @@ use Rattle.graph.specs.Graph.{Graph, Value}
 use Rattle.graph.specs.Reach.{reachable, live_words}
 use Rattle.graph.specs.Step.{Outcome}
 use Rattle.graph.specs.Words.{low_end, high_end, reference, value_word}
-use Rattle.graph.specs.Advance.{State, advance, cleared}
+use Rattle.graph.specs.Advance.{advance, cleared}
 use Rattle.graph.specs.declared.Refusal.TheVariants.{Full}
 use Rattle.graph.specs.Laws.{Fitting}
 use Rattle.graph.specs.Rests.{Rests, state}

@@ -1,12 +1,11 @@
 -- What a value is, from its bytes.
-use Rattle.std.proofs.Common.{◌≡◌, ℕ, ◌-◌, ◌<◌, ◌≤◌, Bool, true, false, cond, eqb, leb, List, [], ◌∷◌, length, get_or, Some, None, Option, sym, refl, ap, ◌∙◌, subst, arith, Bor}
+use Rattle.std.proofs.Common.{◌≡◌, ℕ, ◌<◌, Bool, true, false, cond, eqb, List, [], ◌∷◌, length, get_or, Some, Option, sym, refl, ap, ◌∙◌, subst, arith, Bor}
 use Rattle.std.specs.Int.{IsInRange}
 use Rattle.std.specs.Char.{is_ascii_digit}
-use Rattle.std.specs.List.{between}
 use Rattle.std.proofs.lemmas.Bool.{cond-true, cond-false, ne_eqb, eqb-true, and_from, le-leb}
 use Rattle.std.proofs.lemmas.Bool.Decides.{nat_tests}
 use Rattle.lexer.specs.Tokens.{Lexeme, word, number, dash, behind_minus, lexeme, spelt, left_in}
-use Rattle.lexer.specs.Pieces.{pieces, Full}
+use Rattle.lexer.specs.Pieces.{Full}
 use Rattle.lexer.proofs.Cuts.{pieces-some}
 
 pub digit : (b : ℕ) → IsInRange 48 57 b → is_ascii_digit b ≡ true

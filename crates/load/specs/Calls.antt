@@ -1,5 +1,5 @@
 -- The call that a line gives.
-use Rattle.std.specs.Prelude.{ℕ, cond, List, [], map, ℤ, Some, None, Ok, Err, Option, Result, slice_index_or}
+use Rattle.std.specs.Prelude.{ℕ, cond, List, [], map, ℤ, None, Ok, Err, Option, Result, slice_index_or}
 use Rattle.std.specs.Option.{ok_or}
 use Rattle.graph.specs.declared.Call.{Call}
 use Rattle.graph.specs.declared.Call.TheVariants as calls

@@ -1,5 +1,5 @@
 -- The name line.
-use Rattle.std.specs.Prelude.{◌≡◌, ℕ, suc, Bool, true, false, cond, List, [], ◌∷◌, map, Some, None, Ok, Err, codes, Option, Result, slice_index_or}
+use Rattle.std.specs.Prelude.{◌≡◌, ℕ, suc, Bool, false, cond, List, [], ◌∷◌, map, Some, None, Ok, Err, codes, Option, Result, slice_index_or}
 use Rattle.std.specs.Option.{ok_or}
 use Rattle.std.specs.Str.{bytes_eq}
 use Rattle.lexer.specs.Pieces.{pieces, Shaped, shaped}

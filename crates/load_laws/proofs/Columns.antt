@@ -1,21 +1,21 @@
 -- What each word gives, by the tests of its columns.
-use Rattle.std.proofs.Common.{◌≡◌, ℕ, ◌^◌, ◌<◌, ◌≤◌, Bool, true, false, cond, ◌&&◌, ◌||◌, eqb, ltb, leb, ◌⊎◌, List, [], ◌∷◌, map, length, get_or, ℤ, pos, neg_ℤ, Some, None, Ok, Err, codes, Decides, Option, Result, sym, refl, ap, ◌∙◌, subst, inl, inr, ⊎_elim, arith}
+use Rattle.std.proofs.Common.{◌≡◌, ℕ, ◌^◌, ◌≤◌, Bool, true, false, cond, ◌&&◌, ◌||◌, eqb, ltb, leb, List, [], ◌∷◌, length, get_or, ℤ, pos, neg_ℤ, Some, None, Ok, Err, codes, Decides, Option, Result, sym, refl, ap, ◌∙◌, subst, arith}
 use Rattle.std.specs.Option.{ok_or}
 use Rattle.std.specs.Char.{is_ascii_digit}
 use Rattle.std.specs.Str.{all_ascii_digits, bytes_eq}
 use Rattle.std.proofs.lemmas.Slice.Eq.{bytes_eq-Decides}
-use Rattle.std.proofs.lemmas.Bool.{cond-true, cond-false, eqb-true, eq-eqb, and_left, and_right, or_left, or_right, both_ways}
+use Rattle.std.proofs.lemmas.Bool.{cond-false, eqb-true, eq-eqb, and_left, and_right, both_ways}
 use Rattle.std.proofs.lemmas.Bool.Decides.{Decides-and, Decides-or, Decides-ltb, Decides-like}
 use Rattle.graph.specs.declared.Call.{Call}
 use Rattle.graph.specs.declared.Call.TheVariants as calls
 use Rattle.numbers.specs.Numbers.{read_on, numeral, plain, signed, unused}
-use Rattle.lexer.specs.Tokens.{Lexeme, word, number, dash, behind_minus, lexeme}
+use Rattle.lexer.specs.Tokens.{word, number, behind_minus, lexeme}
 use Rattle.faults.specs.declared.Argument.{Argument}
 use Rattle.faults.specs.declared.Argument.TheVariants.{A, B, C, D}
 use Rattle.faults.specs.declared.TextFault.{TextFault}
-use Rattle.faults.specs.declared.TextFault.TheVariants.{NoShape, NoWord, NoValue}
+use Rattle.faults.specs.declared.TextFault.TheVariants.{NoValue}
 use Rattle.load.proofs.Shapes.{decides-leb}
-use Rattle.load.specs.Calls.{none, one, two, three, four, call}
+use Rattle.load.specs.Calls.{call}
 use Rattle.load.specs.Steps.{and_then}
 use Rattle.words.specs.declared.Word.{Word}
 use Rattle.words.specs.declared.Word.TheVariants as words

@@ -1,5 +1,5 @@
 -- The laws of lines.
-use Rattle.std.proofs.Common.{◌≡◌, ℕ, zero, suc, ◌+◌, ◌<◌, ◌≤◌, Bool, true, false, cond, eqb, ◌⊎◌, List, [], ◌∷◌, map, length, get_or, Some, None, Ok, Err, sum_by, Option, Result, sym, refl, ap, ◌∙◌, subst, inl, inr, ⊎_elim, arith}
+use Rattle.std.proofs.Common.{◌≡◌, ℕ, zero, suc, ◌+◌, ◌<◌, Bool, true, false, cond, eqb, ◌⊎◌, List, [], ◌∷◌, map, length, get_or, Some, None, Ok, Err, sum_by, Option, Result, sym, refl, ap, ◌∙◌, subst, inl, inr, ⊎_elim, arith}
 use Rattle.std.specs.Option.{ok_or}
 use Rattle.std.specs.List.{AllByRecursion as All}
 use Rattle.std.specs.List.Sorted.{IsPermutation}
@@ -18,7 +18,7 @@ use Rattle.lexer.specs.Tokens.{Lexeme, word, number, dash, lexeme, spelt}
 use Rattle.faults.specs.declared.Argument.{Argument}
 use Rattle.faults.specs.declared.Argument.TheVariants.{A, B, C, D}
 use Rattle.faults.specs.declared.TextFault.{TextFault}
-use Rattle.faults.specs.declared.TextFault.TheVariants.{TooLong, NoNames, NoShape, NoWord, NoValue}
+use Rattle.faults.specs.declared.TextFault.TheVariants.{NoShape, NoWord, NoValue}
 use Rattle.load.proofs.Shapes.{decides-shaped, not-from, parsed-shape, parsed-err, parsed-call}
 use Rattle.load.specs.Calls.{parsed, call, value_at, word_said}
 use Rattle.load.specs.declared.names.Columns.{Columns}
@@ -27,7 +27,7 @@ use Rattle.words.specs.Table.{name, table, word_in, word_of}
 use Rattle.words.specs.declared.Word.{Word}
 use Rattle.words.specs.declared.Word.TheVariants as words
 use Rattle.load_laws.proofs.Columns.{takes, decides-takes, judged, call-is}
-use Rattle.load_laws.specs.Lines.{use_of, Takes, meant, column, under, under_call, Calls, CallExactly, GivesCallExactly, InOrder, FaultsInOrder, FirstNot, ColumnNamed, FirstColumnNamed, Reordered, AnyOrderOfNames}
+use Rattle.load_laws.specs.Lines.{use_of, Takes, meant, under, under_call, Calls, CallExactly, GivesCallExactly, InOrder, FaultsInOrder, FirstNot, ColumnNamed, FirstColumnNamed, Reordered, AnyOrderOfNames}
 
 -- The number and the position of a result, to tell results apart.
 

@@ -1,5 +1,5 @@
 -- What a line of a load gives, in the words of the rules.
-use Rattle.std.specs.Prelude.{◌≡◌, ℕ, ◌^◌, ◌<◌, ◌≤◌, Bool, true, false, cond, ◌⊎◌, List, [], ◌∷◌, length, ℤ, pos, neg_ℤ, Ok, Err, codes, Result, ◌==◌, ◌≢◌, slice_index_or}
+use Rattle.std.specs.Prelude.{◌≡◌, ℕ, ◌^◌, ◌<◌, ◌≤◌, true, cond, ◌⊎◌, List, [], ◌∷◌, length, ℤ, pos, neg_ℤ, Ok, Err, codes, ◌==◌, ◌≢◌, slice_index_or}
 use Rattle.std.specs.List.Sorted.{IsPermutation}
 use Rattle.std.specs.Str.{all_ascii_digits}
 use Rattle.graph.specs.declared.Call.{Call}
@@ -9,7 +9,6 @@ use Rattle.numbers.specs.Numbers.{read_on}
 use Rattle.lexer.specs.Pieces.{pieces, Shaped}
 use Rattle.faults.specs.declared.Argument.{Argument}
 use Rattle.faults.specs.declared.Argument.TheVariants.{A, B, C, D}
-use Rattle.faults.specs.declared.TextFault.{TextFault}
 use Rattle.faults.specs.declared.TextFault.TheVariants.{TooLong, NoNames, NoShape, NoWord, NoValue}
 use Rattle.load.specs.Calls.{parsed}
 use Rattle.load.specs.declared.names.Columns.{Columns}

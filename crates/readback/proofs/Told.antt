@@ -1,5 +1,5 @@
 -- The answers, computed from the definitions.
-use Rattle.std.proofs.Common.{◌≡◌, ℕ, min, List, length, IfOk, Ok, Err, Result, refl, ap, ◌∙◌, ap₂}
+use Rattle.std.proofs.Common.{◌≡◌, ℕ, min, List, length, IfOk, Ok, Err, Result, refl, ◌∙◌, ap₂}
 use Rattle.scheme.specs.Meaning.{Meaning, prefix, mask}
 use Rattle.graph.specs.declared.Call.{Call}
 use Rattle.graph.specs.Graph.{bare}

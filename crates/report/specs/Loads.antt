@@ -1,6 +1,6 @@
 -- What a whole load tells, from the rules of its text and the still graph.
-use Rattle.std.specs.Prelude.{◌≡◌, ℕ, suc, Bool, true, false, cond, List, [], ◌∷◌, ◌++◌, length, ℤ, Ok, Err, codes, Result, nat_lt}
-use Rattle.graph.specs.Graph.{Graph, bare}
+use Rattle.std.specs.Prelude.{◌≡◌, ℕ, suc, cond, List, [], ◌∷◌, length, ℤ, Ok, Err, codes, Result, nat_lt}
+use Rattle.graph.specs.Graph.{bare}
 use Rattle.graph.specs.Step.{Outcome, step}
 use Rattle.graph.specs.declared.Call.{Call}
 use Rattle.lexer.specs.Pieces.{lines}
@@ -12,7 +12,7 @@ use Rattle.load.specs.Steps.{and_then}
 use Rattle.load.specs.declared.names.Columns.{Columns}
 use Rattle.scheme.specs.Meaning.{Meaning, prefix}
 use Rattle.report.specs.declared.faults.CallFault.{CallFault}
-use Rattle.report.specs.declared.faults.CallFault.TheVariants.{Text, Heap}
+use Rattle.report.specs.declared.faults.CallFault.TheVariants.{Text}
 use Rattle.report.specs.declared.faults.LineFault.{LineFault}
 use Rattle.report.specs.declared.loads.Opened.{Opened}
 use Rattle.report.specs.declared.reports.Report.{Report}

@@ -1,10 +1,10 @@
 -- One more call.
-use Rattle.std.proofs.Common.{◌≡◌, ℕ, Bool, true, List, [], ◌∷◌, ◌++◌, drop, ℤ, Ok, Err, sym, refl, ap, ◌∙◌, subst, ap₂}
+use Rattle.std.proofs.Common.{◌≡◌, ℕ, true, List, [], ◌∷◌, ◌++◌, drop, Ok, Err, sym, refl, ap, ◌∙◌, subst, ap₂}
 use Rattle.scheme.specs.Meaning.{Meaning}
 use Rattle.graph.specs.declared.Call.{Call}
 use Rattle.graph.specs.Step.{Outcome}
 use Rattle.graph.specs.Reach.{reachable}
-use Rattle.graph.specs.Graph.{Graph, bare}
+use Rattle.graph.specs.Graph.{bare}
 use Rattle.graph.specs.Step.{run}
 use Rattle.graph.specs.Advance.{State, start, advance, advances}
 use Rattle.graph.specs.Runs.{packs}

@@ -1,7 +1,7 @@
-use Rattle.std.proofs.Common.{◌≡◌, ℕ, [], ◌∷◌, ◌++◌, is_ok, vec_items, sym, ap, ◌∙◌, subst, arith}
+use Rattle.std.proofs.Common.{ℕ, is_ok, vec_items, ap, ◌∙◌, subst, arith}
 use Rattle.std.proofs.ResultArms.{chosen}
 use Rattle.scheme.specs.Meaning.{Meaning}
-use Rattle.graph.specs.Advance.{State, advance}
+use Rattle.graph.specs.Advance.{advance}
 use Rattle.load.specs.Calls.{parsed}
 use Rattle.report.specs.Loads.{answered}
 use Rattle.report.specs.Reports.{reported}

@@ -1,16 +1,15 @@
-use Rattle.std.proofs.Common.{◌≡◌, ℕ, ◌+◌, ◌<◌, ◌≤◌, min, Bool, true, List, [], ◌∷◌, ◌++◌, map, length, get_or, take, drop, replicate, pos, vec_items, sym, refl, ap, ◌∙◌, subst, arith}
+use Rattle.std.proofs.Common.{◌≡◌, ℕ, ◌+◌, min, Bool, List, [], ◌∷◌, ◌++◌, length, get_or, take, drop, replicate, pos, vec_items, sym, refl, ap, ◌∙◌, subst, arith}
 use Rattle.std.proofs.lemmas.List.{take_more, take_all, drop_at, length-replicate}
 use Rattle.scheme.specs.Meaning.{Meaning}
 use Rattle.graph.specs.declared.Call.{Call}
 use Rattle.graph.specs.declared.Call.TheVariants.{Num}
 use Rattle.graph.specs.Graph.{Graph, bare}
 use Rattle.graph.specs.Step.{Outcome, run}
-use Rattle.graph.specs.Words.{image, handle_words, packed, packed_handles}
-use Rattle.graph.specs.Advance.{State, start, advances}
+use Rattle.graph.specs.Words.{packed, packed_handles}
+use Rattle.graph.specs.Advance.{start, advances}
 use Rattle.graph.specs.Runs.{to_others}
 use Rattle.graph.proofs.Laws.{runs-agree}
 use Rattle.graph.proofs.Runs.{others-agree}
-use Rattle.heap.specs.Effects.{View}
 use Rattle.heap.specs.Views.{view, Stands, Follows, outcome_of}
 use Rattle.service.proofs.Laws.{StandsAt, more-told, more-stands, more-later, packs-last}
 use Rattle.service.proofs.serve.Goals as goal

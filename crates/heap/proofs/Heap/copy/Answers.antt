@@ -1,11 +1,10 @@
-use Rattle.std.proofs.Common.{◌≡◌, refl, arith}
+use Rattle.std.proofs.Common.{refl}
 use Rattle.graph.specs.declared.Call.TheVariants.{Copy}
 use Rattle.graph.specs.Graph.{held}
 use Rattle.graph.proofs.Rests.{read-handle}
 use Rattle.heap.specs.Views.{view}
-use Rattle.heap.specs.Checks.{none}
-use Rattle.heap.proofs.Judging.{passed, all_pass, next, stop}
-use Rattle.heap.proofs.Acts.{stopped-follows, sets-done}
+use Rattle.heap.proofs.Judging.{passed, all_pass}
+use Rattle.heap.proofs.Acts.{sets-done}
 use Rattle.heap.proofs.Heap.copy.Goals as goal
 
 pub returns : goal.returns

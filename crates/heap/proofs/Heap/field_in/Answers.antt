@@ -1,7 +1,7 @@
-use Rattle.std.proofs.Common.{◌≡◌, ◌+◌, ◌/◌, arith}
+use Rattle.std.proofs.Common.{◌≡◌, ◌+◌, ◌/◌}
 use Rattle.std.proofs.lemmas.Bool.{eqb-true, not-false}
 use Rattle.graph.specs.Step.{kind_of}
-use Rattle.heap.proofs.Judging.{all_pass, pass-first, next, stop, sifts-exit, sifts-then, err-made}
+use Rattle.heap.proofs.Judging.{all_pass, pass-first, stop, sifts-exit, sifts-then, err-made}
 use Rattle.heap.proofs.Heap.field_in.Goals as goal
 
 pub returns-in_err-check_kind : goal.returns-in_err-check_kind

@@ -1,5 +1,4 @@
-use Rattle.std.proofs.Common.{◌≡◌, ℕ, ◌+◌, ◌/◌, Bool, List, sym, ap, ◌∙◌, arith}
-use Rattle.graph.specs.Graph.{Graph, Value}
+use Rattle.std.proofs.Common.{◌∙◌, arith}
 use Rattle.heap.proofs.Judging.{sifts-ok, sifts-err}
 use Rattle.heap.proofs.Readings.{no_field, other-field, good-field}
 use Rattle.heap.proofs.Heap.field_of.Goals as goal

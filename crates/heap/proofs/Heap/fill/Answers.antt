@@ -1,7 +1,7 @@
-use Rattle.std.proofs.Common.{◌≡◌, ℕ, ◌≤◌, [], pos, sym, ap, ◌∙◌, ap₂, arith}
+use Rattle.std.proofs.Common.{◌≡◌, ℕ, [], pos, sym, ap, ◌∙◌, ap₂, arith}
 use Rattle.graph.specs.declared.Call.TheVariants.{Fill}
 use Rattle.graph.specs.Reach.{live_words}
-use Rattle.graph.specs.Step.{Check, Act, tells, percent}
+use Rattle.graph.specs.Step.{tells, percent}
 use Rattle.heap.proofs.Stepping.{tells-follow, live_small}
 use Rattle.heap.proofs.Heap.fill.Goals as goal
 

@@ -1,4 +1,4 @@
-use Rattle.std.proofs.Common.{◌≡◌, ℕ, ◌/◌, ◌%◌, get_or, refl, ap, ◌∙◌, arith}
+use Rattle.std.proofs.Common.{◌≡◌, ◌/◌, ◌%◌, get_or, ap, ◌∙◌, arith}
 use Rattle.heap.proofs.Readings.{layout_word, map_word}
 use Rattle.heap.proofs.Heap.kind_of.Goals as goal
 

@@ -1,6 +1,6 @@
-use Rattle.std.proofs.Common.{◌≡◌, ℕ, ◌+◌, ◌/◌, get_or, pos, refl, ap, ◌∙◌}
+use Rattle.std.proofs.Common.{◌≡◌, ℕ, ◌+◌, ◌/◌, get_or, refl, ap, ◌∙◌}
 use Rattle.graph.specs.declared.Call.TheVariants.{Load}
-use Rattle.graph.specs.Graph.{Graph, held}
+use Rattle.graph.specs.Graph.{held}
 use Rattle.graph.specs.Step.{cell_in, cell_value}
 use Rattle.graph.specs.Words.{reference}
 use Rattle.heap.specs.Effects.{with_handle}

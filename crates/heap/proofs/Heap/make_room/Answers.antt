@@ -1,6 +1,5 @@
-use Rattle.std.proofs.Common.{◌≡◌, ℕ, ◌+◌, ◌<◌, ◌≤◌, sym, refl, ap, ◌∙◌, arith}
+use Rattle.std.proofs.Common.{refl, arith}
 use Rattle.std.proofs.lemmas.Bool.{lt-ltb}
-use Rattle.graph.specs.Reach.{live_words}
 use Rattle.heap.specs.Views.{view}
 use Rattle.heap.proofs.Objects.{room-there, room-packed}
 use Rattle.heap.proofs.Heap.make_room.Goals as goal

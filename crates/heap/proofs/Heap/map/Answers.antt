@@ -1,11 +1,9 @@
-use Rattle.std.proofs.Common.{◌≡◌, ℕ, ◌+◌, ◌-◌, ◌*◌, ◌<◌, ◌≤◌, List, [], ◌∷◌, get_or, take, set, replicate, pos, sym, refl, ap, ◌∙◌, ap₂, arith}
-use Rattle.std.proofs.lemmas.Bool.{eqb-true, not-false}
+use Rattle.std.proofs.Common.{ℕ, ◌-◌, List, [], ◌∷◌, get_or, set, refl, ap, ◌∙◌, ap₂, arith}
 use Rattle.graph.specs.declared.Call.TheVariants.{Map}
-use Rattle.graph.specs.Graph.{Graph, held, a_map, a_layout}
-use Rattle.graph.specs.Step.{position_of, kind_of, figure_of, object_of, fresh_record}
+use Rattle.graph.specs.Graph.{held, a_map}
 use Rattle.graph.specs.Words.{put as putWords}
 use Rattle.heap.specs.Views.{view, nothing}
-use Rattle.heap.proofs.Judging.{passed, all_pass, pass-first, next, stop}
+use Rattle.heap.proofs.Judging.{passed, all_pass, next, stop}
 use Rattle.heap.proofs.Readings.{held-means}
 use Rattle.heap.proofs.Objects.{ClassPut, room-exits, class-alters, map-done}
 use Rattle.heap.proofs.Exits.{exits, ends}

@@ -1,18 +1,14 @@
-use Rattle.std.proofs.Common.{◌≡◌, ℕ, ◌+◌, ◌*◌, ◌/◌, ◌<◌, ◌≤◌, true, false, cond, List, [], ◌∷◌, get_or, set, ℤ, pos, Ok, Err, sym, refl, ap, ◌∙◌, subst, ap₂, arith, w32, to_z, of_z}
+use Rattle.std.proofs.Common.{◌≡◌, true, [], ◌∷◌, ℤ, Ok, Err, refl, ap, ◌∙◌, subst, w32}
 use Rattle.std.proofs.lemmas.Int.{to_z-of_z}
 use Rattle.graph.specs.Step.{value_number, in_range}
 use Rattle.graph.specs.Words.{number_word}
-use Rattle.std.proofs.lemmas.Bool.{eqb-true, not-false, eq-eqb, ne_eqb}
 use Rattle.graph.specs.declared.Call.TheVariants.{Num}
-use Rattle.graph.specs.Graph.{Graph, held, empty, number}
-use Rattle.graph.specs.Step.{tells, kind_of, figure_of, object_of, part_of, number_of, same_value, layout_raws, part_kind}
-use Rattle.graph.proofs.Laws.{words-tell}
+use Rattle.graph.specs.Graph.{number}
 use Rattle.heap.specs.Views.{view, nothing}
 use Rattle.heap.specs.Effects.{with_handle}
-use Rattle.heap.specs.Checks.{Sifts, is_kind}
-use Rattle.heap.proofs.Judging.{passed, all_pass, pass-first, next, stop, sifts-ok}
-use Rattle.heap.proofs.Acts.{sets-done, tells-done}
-use Rattle.heap.proofs.Readings.{held-means, number_read, part-read, record-figure, class-figure, raws-read}
+use Rattle.heap.specs.Checks.{Sifts}
+use Rattle.heap.proofs.Judging.{passed, all_pass, next, stop}
+use Rattle.heap.proofs.Acts.{sets-done}
 use Rattle.heap.proofs.Exits.{exits, ends}
 use Rattle.heap.proofs.Heap.num.Goals as goal
 

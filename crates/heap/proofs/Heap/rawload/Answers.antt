@@ -1,11 +1,10 @@
-use Rattle.std.proofs.Common.{◌≡◌, ℕ, ◌+◌, get_or, pos, sym, refl, ap, ◌∙◌, arith}
+use Rattle.std.proofs.Common.{ℕ, get_or, pos, sym, refl, ap, ◌∙◌}
 use Rattle.graph.specs.declared.Call.TheVariants.{RawLoad}
-use Rattle.graph.specs.Graph.{Graph, held, raw, value}
-use Rattle.graph.specs.Step.{cell_in, cell_word, position_of, tells}
+use Rattle.graph.specs.Graph.{held}
+use Rattle.graph.specs.Step.{cell_in, tells}
 use Rattle.graph.specs.Words.{reference}
-use Rattle.heap.specs.Views.{view, nothing}
 use Rattle.heap.proofs.Judging.{passed, all_pass, next, stop}
-use Rattle.heap.proofs.Acts.{tells-done, writes-done}
+use Rattle.heap.proofs.Acts.{tells-done}
 use Rattle.heap.proofs.Readings.{held-means, found, raw_word}
 use Rattle.heap.proofs.Exits.{exits, ends}
 use Rattle.heap.proofs.Heap.rawload.Goals as goal

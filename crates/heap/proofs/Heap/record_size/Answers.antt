@@ -1,6 +1,5 @@
-use Rattle.std.proofs.Common.{◌≡◌, ℕ, ◌+◌, ◌≤◌, min, sym, refl, ap, ◌∙◌, arith}
+use Rattle.std.proofs.Common.{arith}
 use Rattle.std.proofs.lemmas.Bool.{eqb-true, not-false}
-use Rattle.graph.specs.Graph.{object}
 use Rattle.graph.specs.Step.{kind_of}
 use Rattle.heap.proofs.Judging.{all_pass, pass-first, sifts-ok}
 use Rattle.heap.proofs.Readings.{layout-count}

@@ -1,4 +1,4 @@
-use Rattle.std.proofs.Common.{◌≡◌, cond, eqb, get_or, pos, sym, refl, ap, ◌∙◌, ap₂}
+use Rattle.std.proofs.Common.{cond, eqb, pos, sym, refl, ap, ◌∙◌, ap₂}
 use Rattle.graph.specs.declared.Call.TheVariants.{Same}
 use Rattle.graph.specs.Graph.{held}
 use Rattle.graph.specs.Step.{tells}

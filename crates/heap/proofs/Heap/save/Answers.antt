@@ -1,13 +1,12 @@
-use Rattle.std.proofs.Common.{◌≡◌, ℕ, ◌+◌, ◌/◌, true, false, List, get_or, set, pos, refl, ap, ◌∙◌, arith}
+use Rattle.std.proofs.Common.{◌≡◌, ℕ, ◌+◌, ◌/◌, false, List, get_or, set, refl, ap, ◌∙◌, arith}
 use Rattle.graph.specs.declared.Call.TheVariants.{Save}
-use Rattle.graph.specs.Graph.{Graph, held, raw, value}
-use Rattle.graph.specs.Step.{cell_in, cell_word, position_of}
-use Rattle.graph.specs.Words.{reference}
+use Rattle.graph.specs.Graph.{held, value}
+use Rattle.graph.specs.Step.{position_of}
 use Rattle.heap.specs.Effects.{parts}
-use Rattle.heap.specs.Views.{view, nothing}
+use Rattle.heap.specs.Views.{nothing}
 use Rattle.heap.proofs.Judging.{passed, all_pass, next, stop}
 use Rattle.heap.proofs.Acts.{written-done}
-use Rattle.heap.proofs.Readings.{held-means, found, raw_word}
+use Rattle.heap.proofs.Readings.{held-means, found}
 use Rattle.heap.proofs.Exits.{exits, ends}
 use Rattle.heap.proofs.Heap.save.Goals as goal
 

@@ -1,4 +1,4 @@
-use Rattle.std.proofs.Common.{sym, refl, ap, ◌∙◌, arith}
+use Rattle.std.proofs.Common.{sym, ap, ◌∙◌, arith}
 use Rattle.std.specs.Option.{ok_or}
 use Rattle.faults.specs.declared.TextFault.TheVariants.{NoNames}
 use Rattle.lexer.specs.Tokens.{held, said}

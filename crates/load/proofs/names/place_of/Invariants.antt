@@ -1,4 +1,4 @@
-use Rattle.std.proofs.Common.{◌≡◌, ℕ, drop}
+use Rattle.std.proofs.Common.{◌≡◌, drop}
 use Rattle.lexer.specs.Tokens.{held}
 use Rattle.load.specs.Names.{place_in}
 use Rattle.load.proofs.Titles.{further}

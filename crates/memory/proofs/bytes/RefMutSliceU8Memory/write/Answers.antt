@@ -1,4 +1,4 @@
-use Rattle.std.proofs.Common.{◌≡◌, ℕ, ◌*◌, ◌^◌, ◌<◌, List, get_or, sym, refl, ap, ◌∙◌, inr, arith}
+use Rattle.std.proofs.Common.{ℕ, ◌*◌, ◌^◌, ◌<◌, List, get_or, sym, refl, ap, ◌∙◌, inr, arith}
 use Rattle.std.proofs.lemmas.List.{set_past}
 use Rattle.memory.specs.Bytes.{words_of}
 use Rattle.memory.proofs.Wordwise.{length-words, words-set, four, four-other}
