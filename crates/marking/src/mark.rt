@@ -41,9 +41,11 @@ impl Pending {
         let kind = header / 4 % 4;
         let rule = if kind == 0 { space.rule_of(place) } else { 0 };
         for i in 1..header / 16 {
-            let word = space.word(place + i);
-            if word % 4 >= 2 && is_value(scheme, kind, rule, i) {
-                self.mark_at(space, word / 4);
+            if is_value(scheme, kind, rule, i) {
+                let word = space.look(place + i);
+                if word % 4 >= 2 {
+                    self.mark_at(space, word / 4);
+                }
             }
         }
     }

@@ -1,5 +1,5 @@
 // One address space: address p below 16,384 is word p of the memory, 16,384 + h is handle h.
-ghost use Rattle.std.specs.Prelude.{◌≡◌, ◌<◌, replicate};
+ghost use Rattle.std.specs.Prelude.{◌≡◌, replicate};
 ghost use Rattle.space.specs.Weave.{view, Stored};
 
 use crate::{ADDRESSES, Space, WORDS};
@@ -27,21 +27,6 @@ impl<M: Memory> Space<M> {
         } else {
             0
         }
-    }
-
-    /// The word at a place of the memory, for an address that is none of a handle.
-    pub fn word(&self, place: u32) -> u32
-        ensures { place < 16384 → result ≡ view (M.Memory.words self.now.memory) self.now.handles place }
-    {
-        self.memory.read(place as usize)
-    }
-
-    // Sets the word at a place of the memory.
-    pub(crate) fn set_word(&mut self, place: u32, word: u32)
-        requires { place < 16384 }
-        ensures { Stored (M.Memory.words self.old.memory) self.old.handles place word (M.Memory.words self.new.memory) self.new.handles }
-    {
-        self.memory.write(place as usize, word);
     }
 
     /// Sets the word at an address; past the last, or past the memory's words, it does nothing.

@@ -1,7 +1,7 @@
 // The classes' side.
 ghost use Rattle.std.specs.Prelude.{Bool, false};
 
-use crate::{Found, Side, Space};
+use crate::{Side, Space};
 use memory::Memory;
 
 /// Classes: by their boundary tags, from the right.
@@ -10,10 +10,8 @@ pub struct Classes;
 impl Side for Classes {
     ghost upward = { false };
 
-    fn find<M: Memory>(space: &Space<M>, cursor: u32) -> Found {
-        let size = space.look(cursor.saturating_sub(1));
-        let header = space.header_of(cursor.saturating_sub(size));
-        Found { size, header }
+    fn size<M: Memory>(space: &Space<M>, cursor: u32) -> u32 {
+        space.look(cursor.saturating_sub(1))
     }
 
     fn place(cursor: u32, size: u32) -> u32 {

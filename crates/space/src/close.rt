@@ -1,10 +1,10 @@
 // The backward update: records, then classes.
 ghost use Rattle.std.specs.Prelude.{◌≡◌, ◌+◌, ◌-◌, ◌≤◌};
-ghost use Rattle.space.specs.Weave.{Heads, Kept};
+ghost use Rattle.space.specs.Weave.{Kept};
 ghost use Rattle.space.specs.Pass.{Closed, ClosedSide};
 ghost use Rattle.space.specs.Collect.{Closes};
 
-use crate::{Classes, Found, Records, Side, Space, WORDS};
+use crate::{Classes, Records, Side, Space, WORDS};
 use memory::Memory;
 
 // The header without its mark.
@@ -16,16 +16,15 @@ fn unmarked(header: u32) -> u32
 
 impl<M: Memory> Space<M> {
     // A marked object: its list is unthreaded to the new place, then it is moved and unmarked.
-    fn close_object<T: Side>(&mut self, place: u32, new_place: u32, found: Found)
-        requires { (place + found.size ≤ 16384) × (new_place + found.size ≤ 16384) }
-        ensures closed { Heads (M.Memory.words self.old.memory) self.old.handles place found.header → Closed T.Side.upward (M.Memory.words self.old.memory) self.old.handles place new_place found.size (M.Memory.words self.new.memory) self.new.handles }
+    fn close_object<T: Side>(&mut self, place: u32, new_place: u32, size: u32)
+        requires { (place + size ≤ 16384) × (new_place + size ≤ 16384) }
+        ensures closed { Closed T.Side.upward (M.Memory.words self.old.memory) self.old.handles place new_place size (M.Memory.words self.new.memory) self.new.handles }
         ensures kept { Kept (M.Memory.words self.old.memory) self.old.handles (M.Memory.words self.new.memory) self.new.handles }
     {
-        self.unthread(place, new_place, found.header);
-        if place != new_place {
-            self.slide::<T>(place, new_place, found.size);
-        }
-        self.store(new_place, unmarked(found.header));
+        self.unthread(place, new_place);
+        self.slide::<T>(place, new_place, size);
+        let header = self.look(new_place);
+        self.store(new_place, unmarked(header));
     }
 
     // Goes over a side, and answers where it now ends.
@@ -36,19 +35,20 @@ impl<M: Memory> Space<M> {
         let mut cursor = from;
         let mut to = from;
         for turn in 0..WORDS {
-            let Some(found) = self.object_at::<T>(cursor, end) else {
+            let Some(size) = self.size_at::<T>(cursor, end) else {
                 break;
             };
-            if found.header % 4 == 3 {
-                let new_place = T::place(to, found.size);
-                if new_place > WORDS || found.size > WORDS - new_place {
-                    break;
-                }
-                let place = T::place(cursor, found.size);
-                self.close_object::<T>(place, new_place, found);
-                to = T::next(to, found.size);
+            let place = T::place(cursor, size);
+            let new_place = T::place(to, size);
+            if new_place > WORDS || size > WORDS - new_place {
+                break;
             }
-            cursor = T::next(cursor, found.size);
+            let header = self.header_of(place);
+            if header % 4 == 3 {
+                self.close_object::<T>(place, new_place, size);
+                to = T::next(to, size);
+            }
+            cursor = T::next(cursor, size);
         }
         to
     }

@@ -1,11 +1,11 @@
 // The forward update: handles, then records, then classes.
-ghost use Rattle.std.specs.Prelude.{◌≡◌, ◌+◌, ◌/◌, ◌%◌, ◌≤◌};
-ghost use Rattle.space.specs.Weave.{Heads, Kept};
+ghost use Rattle.std.specs.Prelude.{◌≡◌, ◌+◌, ◌≤◌};
+ghost use Rattle.space.specs.Weave.{Kept};
 ghost use Rattle.space.specs.Pass.{ThreadedWords, ThreadedHandles, Visited, DrawnSide};
 ghost use Rattle.space.specs.Collect.{DrawsRecords, DrawsClasses, Draws};
 
 use crate::slot::is_value;
-use crate::{Classes, Found, Records, Side, Space, WORDS};
+use crate::{Classes, Records, Side, Space, WORDS};
 use memory::Memory;
 use scheme::Scheme;
 
@@ -17,9 +17,8 @@ impl<M: Memory> Space<M> {
         ensures kept { Kept (M.Memory.words self.old.memory) self.old.handles (M.Memory.words self.new.memory) self.new.handles }
     {
         for i in 1..size {
-            let word = self.word(place + i);
-            if word % 4 >= 2 && is_value(scheme, kind, rule, i) {
-                self.thread(place + i, word);
+            if is_value(scheme, kind, rule, i) && self.look(place + i) % 4 >= 2 {
+                self.thread(place + i);
             }
         }
     }
@@ -32,21 +31,20 @@ impl<M: Memory> Space<M> {
         let table = self.handles;
         for (h, word) in table.iter().enumerate() {
             if *word % 4 >= 2 {
-                self.thread(WORDS + h as u32, *word);
+                self.thread(WORDS + h as u32);
             }
         }
     }
 
     // A marked object: its list is unthreaded to the new place, then its references are threaded.
-    fn visit<S: Scheme>(&mut self, scheme: &S, place: u32, new_place: u32, found: Found)
-        requires { place + found.size ≤ 16384 }
-        ensures visited { Heads (M.Memory.words self.old.memory) self.old.handles place found.header → Visited (S.Scheme.meaning scheme.now) (M.Memory.words self.old.memory) self.old.handles place new_place found.size (found.header / 4 % 4) (M.Memory.words self.new.memory) self.new.handles }
+    fn visit<S: Scheme>(&mut self, scheme: &S, place: u32, new_place: u32, size: u32, kind: u32)
+        requires { place + size ≤ 16384 }
+        ensures visited { Visited (S.Scheme.meaning scheme.now) (M.Memory.words self.old.memory) self.old.handles place new_place size kind (M.Memory.words self.new.memory) self.new.handles }
         ensures kept { Kept (M.Memory.words self.old.memory) self.old.handles (M.Memory.words self.new.memory) self.new.handles }
     {
-        self.unthread(place, new_place, found.header);
-        let kind = found.header / 4 % 4;
+        self.unthread(place, new_place);
         let rule = if kind == 0 { self.rule_of(place) } else { 0 };
-        self.thread_words(scheme, place, found.size, kind, rule);
+        self.thread_words(scheme, place, size, kind, rule);
     }
 
     // Goes over a side.
@@ -57,15 +55,16 @@ impl<M: Memory> Space<M> {
         let mut cursor = from;
         let mut to = from;
         for turn in 0..WORDS {
-            let Some(found) = self.object_at::<T>(cursor, end) else {
+            let Some(size) = self.size_at::<T>(cursor, end) else {
                 break;
             };
-            if found.header % 4 == 3 {
-                let place = T::place(cursor, found.size);
-                self.visit(scheme, place, T::place(to, found.size), found);
-                to = T::next(to, found.size);
+            let place = T::place(cursor, size);
+            let header = self.header_of(place);
+            if header % 4 == 3 {
+                self.visit(scheme, place, T::place(to, size), size, header / 4 % 4);
+                to = T::next(to, size);
             }
-            cursor = T::next(cursor, found.size);
+            cursor = T::next(cursor, size);
         }
     }
 

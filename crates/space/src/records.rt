@@ -1,7 +1,7 @@
 // The records' side.
 ghost use Rattle.std.specs.Prelude.{Bool, true};
 
-use crate::{Found, Side, Space};
+use crate::{Side, Space};
 use memory::Memory;
 
 /// Records: by their headers, from the left.
@@ -10,12 +10,8 @@ pub struct Records;
 impl Side for Records {
     ghost upward = { true };
 
-    fn find<M: Memory>(space: &Space<M>, cursor: u32) -> Found {
-        let header = space.header_of(cursor);
-        Found {
-            size: header / 16,
-            header,
-        }
+    fn size<M: Memory>(space: &Space<M>, cursor: u32) -> u32 {
+        space.header_of(cursor) / 16
     }
 
     fn place(cursor: u32, size: u32) -> u32 {

@@ -1,19 +1,17 @@
 // The two sides of a heap: records from the left by their headers, classes from the right by their boundary tags.
 ghost use Rattle.std.specs.Prelude.{◌≡◌, ◌+◌, ◌^◌, ◌<◌, Bool};
-ghost use Rattle.space.specs.Weave.{Heads};
-ghost use Rattle.space.specs.Pass.{Sized, place_by, next_by, gap_by, order_by, Came, Met};
+ghost use Rattle.space.specs.Pass.{Sized, place_by, next_by, gap_by, order_by, Came};
 
-use crate::{Found, Space, WORDS};
+use crate::{Space, WORDS};
 use memory::Memory;
 
 // A side of the heap: the way in which a cursor goes over its objects.
 pub trait Side {
     ghost upward: { Bool };
 
-    // The object that the cursor has come to.
-    fn find<M: Memory>(space: &Space<M>, cursor: u32) -> Found
-        ensures size { Sized upward (M.Memory.words space.now.memory) space.now.handles cursor result.size }
-        ensures header { Heads (M.Memory.words space.now.memory) space.now.handles (place_by upward cursor result.size) result.header };
+    // The size of the object that the cursor has come to.
+    fn size<M: Memory>(space: &Space<M>, cursor: u32) -> u32
+        ensures { Sized upward (M.Memory.words space.now.memory) space.now.handles cursor result };
 
     // Where an object of that size lies.
     fn place(cursor: u32, size: u32) -> u32
@@ -33,31 +31,21 @@ pub trait Side {
 }
 
 impl<M: Memory> Space<M> {
-    // The object that the cursor has come to on its way to the end, if one lies there.
-    pub(crate) fn object_at<T: Side>(&self, cursor: u32, end: u32) -> Option<Found>
-        ensures { Met T.Side.upward (M.Memory.words self.now.memory) self.now.handles cursor end result }
-    {
-        if cursor == end {
-            return None;
-        }
-        let found = T::find(self, cursor);
-        if found.size > T::gap(cursor, end) {
-            return None;
-        }
-        let place = T::place(cursor, found.size);
-        if place > WORDS || found.size > WORDS - place {
-            return None;
-        }
-        Some(found)
-    }
-
     /// The size of the object that the cursor has come to on its way to the end, if one lies there.
     pub fn size_at<T: Side>(&self, cursor: u32, end: u32) -> Option<u32>
         ensures { Came T.Side.upward (M.Memory.words self.now.memory) self.now.handles cursor end result }
     {
-        match self.object_at::<T>(cursor, end) {
-            Some(found) => Some(found.size),
-            None => None,
+        if cursor == end {
+            return None;
         }
+        let size = T::size(self, cursor);
+        if size > T::gap(cursor, end) {
+            return None;
+        }
+        let place = T::place(cursor, size);
+        if place > WORDS || size > WORDS - place {
+            return None;
+        }
+        Some(size)
     }
 }

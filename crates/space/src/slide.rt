@@ -4,7 +4,7 @@ ghost use Rattle.space.specs.Weave.{Kept};
 ghost use Rattle.space.specs.Pass.{Moved};
 ghost use Rattle.space.specs.Collect.{Wiped};
 
-use crate::{Side, Space, WORDS};
+use crate::{Side, Space};
 use memory::Memory;
 
 impl<M: Memory> Space<M> {
@@ -17,8 +17,8 @@ impl<M: Memory> Space<M> {
         for i in 0..size {
             let at = T::order(size, i);
             if at < size {
-                let word = self.word(from + at);
-                self.set_word(to + at, word);
+                let word = self.look(from + at);
+                self.store(to + at, word);
             }
         }
     }
@@ -28,9 +28,8 @@ impl<M: Memory> Space<M> {
         ensures wiped { Wiped (M.Memory.words self.old.memory) self.old.handles from end (M.Memory.words self.new.memory) self.new.handles }
         ensures kept { Kept (M.Memory.words self.old.memory) self.old.handles (M.Memory.words self.new.memory) self.new.handles }
     {
-        let stop = end.min(WORDS);
-        for place in from..stop {
-            self.set_word(place, 0);
+        for place in from..end {
+            self.store(place, 0);
         }
     }
 }

@@ -1,6 +1,6 @@
 // Threading: the slots that refer to an object form a list that begins at its header's place and ends with the header.
 ghost use Rattle.std.specs.Prelude.{◌≡◌, ◌<◌};
-ghost use Rattle.space.specs.Weave.{view, reference, Heads, Threaded, Unthreaded, Kept};
+ghost use Rattle.space.specs.Weave.{reference, Heads, Threaded, Unthreaded, Kept};
 
 use crate::{ADDRESSES, Space, WORDS};
 use memory::Memory;
@@ -31,25 +31,25 @@ impl<M: Memory> Space<M> {
         word
     }
 
-    // Threads the reference in the slot, whose word that is.
-    pub(crate) fn thread(&mut self, slot: u32, word: u32)
-        ensures woven { word ≡ view (M.Memory.words self.old.memory) self.old.handles slot → Threaded (M.Memory.words self.old.memory) self.old.handles slot (M.Memory.words self.new.memory) self.new.handles }
+    // Threads the reference in the slot.
+    pub(crate) fn thread(&mut self, slot: u32)
+        ensures woven { Threaded (M.Memory.words self.old.memory) self.old.handles slot (M.Memory.words self.new.memory) self.new.handles }
         ensures kept { Kept (M.Memory.words self.old.memory) self.old.handles (M.Memory.words self.new.memory) self.new.handles }
     {
         if slot < ADDRESSES {
-            let place = word / 4;
+            let place = self.look(slot) / 4;
             let header = self.look(place);
             self.store(slot, header);
             self.store(place, 2 * slot);
         }
     }
 
-    // Takes the list off the place of the header, and has each of its slots refer to the new place.
-    pub(crate) fn unthread(&mut self, place: u32, new_place: u32, header: u32)
-        ensures woven { Heads (M.Memory.words self.old.memory) self.old.handles place header → Unthreaded (M.Memory.words self.old.memory) self.old.handles place new_place (M.Memory.words self.new.memory) self.new.handles }
+    // Takes the list off the header at the place, and has each of its slots refer to the new place.
+    pub(crate) fn unthread(&mut self, place: u32, new_place: u32)
+        ensures woven { Unthreaded (M.Memory.words self.old.memory) self.old.handles place new_place (M.Memory.words self.new.memory) self.new.handles }
         ensures kept { Kept (M.Memory.words self.old.memory) self.old.handles (M.Memory.words self.new.memory) self.new.handles }
     {
-        let reference = reference_to(new_place, header);
+        let reference = reference_to(new_place, self.header_of(place));
         let mut word = self.look(place);
         for turn in 0..ADDRESSES {
             if word % 2 == 1 {

@@ -22,10 +22,10 @@ loop-i-preserved g c =
     let i = c.loop-i.i in
     let none : CallWords = record { number = 0; a = 0; b = 0; c = 0; d = 0 } in
     let w : CallWords = get_or calls i none in
-    let r = c.give-words.result in
+    let r = c.give_words.result in
     let v = view {S = g.row.S.Denot} g.M.Memory.words c.loop-i.heap in
-    let v' = view {S = g.row.S.Denot} g.M.Memory.words c.give-words.new.heap in
-    let told : Answers m w v v' r = subst (λ s. Answers (g.S.Scheme.meaning s) w v v' r) inv.4 c.give-words.ensures.answers in
+    let v' = view {S = g.row.S.Denot} g.M.Memory.words c.give_words.new.heap in
+    let told : Answers m w v v' r = subst (λ s. Answers (g.S.Scheme.meaning s) w v v' r) inv.4 c.give_words.ensures.answers in
     let among : i < length calls = omega (arith, c.loop-i-test.true, c.min-given.ensures) in
     let room : i < length c.loop-i.answers = omega (arith, c.loop-i-test.true, c.min-given.ensures, inv.6) in
     let more : take (i + 1) calls ≡ take i calls ++ (w ∷ []) = take_more calls i none among in
@@ -37,8 +37,8 @@ loop-i-preserved g c =
           ∙ ap (λ (ws : List CallWords). (answers m W ws st).0) (sym more),
       λ st s. subst (λ (ws : List CallWords). StandsAt m v' (answers m W ws st).1) (sym more) (next st s).1,
       λ st s. (next st s).2 ∙ inv.2 st s,
-      c.give-words.ensures.answers.limit ∙ inv.3,
-      c.give-words.ensures.scheme ∙ inv.4,
+      c.give_words.ensures.answers.limit ∙ inv.3,
+      c.give_words.ensures.scheme ∙ inv.4,
       λ k h. drop-set-lt k c.loop-i.answers i r (omega arith) ∙ inv.5 k (omega arith),
       length-set c.loop-i.answers i r ∙ inv.6,
     )

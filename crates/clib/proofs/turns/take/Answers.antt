@@ -13,4 +13,4 @@ pub returns-in-Close : goal.returns-in-Close
 returns-in-Close g c = rw c.in-Close.is c.close.ensures
 
 pub returns-in-GiveUp : goal.returns-in-GiveUp
-returns-in-GiveUp g c = rw c.in-GiveUp.is c.give-up.ensures
+returns-in-GiveUp g c = rw c.in-GiveUp.is c.give_up.ensures
