@@ -1,8 +1,8 @@
 -- Lists of calls in their fixed form.
-use Rattle.std.proofs.Common.{◌≡◌, ℕ, List, [], ◌∷◌, ◌++◌, map, drop, Some, None, Option, sym, refl, ap, ◌∙◌, subst, ap₂}
+use Rattle.std.proofs.Common.{◌≡◌, ℕ, List, [], ◌∷◌, ◌++◌, drop, Some, Option, sym, refl, ap, ◌∙◌, subst, ap₂}
 use Rattle.scheme.specs.Meaning.{Meaning}
 use Rattle.graph.specs.declared.Call.{Call}
-use Rattle.graph.specs.Advance.{State, advance, advances}
+use Rattle.graph.specs.Advance.{State, advance}
 use Rattle.clib.specs.declared.forms.CallWords.{CallWords}
 use Rattle.clib.specs.declared.forms.Answer.{Answer}
 use Rattle.heap.specs.Effects.{View}

@@ -1,5 +1,5 @@
 -- Which of the two schemes a call goes by.
-use Rattle.std.proofs.Common.{◌≡◌, ℕ, ℤ, sym, ◌∙◌, arith}
+use Rattle.std.proofs.Common.{◌≡◌, ℕ, ℤ, arith}
 use Rattle.scheme.specs.Meaning.{Meaning, prefix, mask}
 use Rattle.clib.specs.States.{Under}
 

@@ -1,5 +1,5 @@
 -- The start of marking, its handles, its rounds and its end.
-use Rattle.std.proofs.Common.{◌≡◌, ℕ, ◌+◌, ◌-◌, ◌/◌, ◌%◌, ◌<◌, ◌≤◌, Bool, true, false, cond, ltb, List, length, get_or, sym, refl, ap, ◌∙◌, subst, inl, inr, arith}
+use Rattle.std.proofs.Common.{◌≡◌, ℕ, ◌+◌, ◌/◌, ◌%◌, ◌<◌, ◌≤◌, Bool, true, false, cond, ltb, List, length, get_or, sym, refl, ap, ◌∙◌, subst, inl, inr, arith}
 use Rattle.std.proofs.lemmas.Bool.{both_ways, le-leb, lt-leb, le-ltb, lt-ltb, cases_eq}
 use Rattle.scheme.specs.Meaning.{Meaning}
 use Rattle.space.specs.Weave.{view}
@@ -7,7 +7,7 @@ use Rattle.graph.specs.Places.{refers}
 use Rattle.space.specs.Pass.{Plan}
 use Rattle.marking.specs.declared.Pending.{Pending}
 use Rattle.space.specs.Standing.{Standing}
-use Rattle.marking.specs.Marks.{Marked, marked, Reaches, by_handle, by_object, live, unmarked, stage, Going, nothing, after, MarkedAt, Done}
+use Rattle.marking.specs.Marks.{Marked, marked, Reaches, by_handle, by_object, unmarked, stage, Going, nothing, after, MarkedAt, Done}
 use Rattle.space.proofs.Stores.{view-handle}
 use Rattle.space.proofs.Walk.{inside-below}
 use Rattle.graph.proofs.Totals.{total-none}

@@ -5,7 +5,7 @@ use Rattle.std.proofs.lemmas.List.{get_or-map}
 use Rattle.scheme.specs.Meaning.{Meaning}
 use Rattle.graph.specs.Graph.{Value, empty, number, object, Object, a_record, a_layout, a_map, Graph, held, object_at, size, is_record}
 use Rattle.graph.specs.Reach.{chosen_size, words_of}
-use Rattle.graph.specs.Words.{place_of, between, record_size, class_size, reference, header, header_kind, value_word, object_words, image, handle_words, low_end, high_end}
+use Rattle.graph.specs.Words.{place_of, record_size, class_size, reference, header, header_kind, value_word, object_words, image, handle_words, low_end, high_end}
 use Rattle.graph.specs.Sound.{Sound}
 use Rattle.graph.proofs.Piles.{total-le}
 use Rattle.graph.proofs.Laws.{references-read, headers-read, record-counts}

@@ -6,7 +6,7 @@ use Rattle.graph.specs.Graph.{Graph, object_at, size, is_record}
 use Rattle.graph.specs.Words.{place_of, low_end, high_end}
 use Rattle.graph.specs.Sound.{Sound}
 use Rattle.space.specs.Pass.{Plan, Here}
-use Rattle.graph.specs.Places.{records, classes, turn_of}
+use Rattle.graph.specs.Places.{records, turn_of}
 use Rattle.space.specs.Layout.{Keeps, plan}
 use Rattle.graph.proofs.Places.{turn-bounds}
 use Rattle.space.proofs.Plans.{ends, head-of, here-at, planned, plan-handles}
