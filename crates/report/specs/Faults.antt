@@ -4,9 +4,9 @@ use Rattle.graph.specs.Numbers.{refusal_number, refusal_position}
 use Rattle.graph.specs.declared.Refusal.{Refusal}
 use Rattle.faults.specs.Faults.{text_number, text_position}
 use Rattle.faults.specs.declared.TextFault.{TextFault}
-use Rattle.report.specs.declared.faults.CallFault.{CallFault}
-use Rattle.report.specs.declared.faults.CallFault.TheVariants.{Text, Heap}
-use Rattle.report.specs.declared.faults.LineFault.{LineFault}
+use Rattle.report.specs.declared.line_faults.CallFault.{CallFault}
+use Rattle.report.specs.declared.line_faults.CallFault.TheVariants.{Text, Heap}
+use Rattle.report.specs.declared.line_faults.LineFault.{LineFault}
 
 abbrev pub fault_number : CallFault → ℕ
 fault_number (Text f) = text_number f

@@ -11,9 +11,9 @@ use Rattle.load.specs.Names.{columns_in}
 use Rattle.load.specs.Steps.{and_then}
 use Rattle.load.specs.declared.names.Columns.{Columns}
 use Rattle.scheme.specs.Meaning.{Meaning, prefix}
-use Rattle.report.specs.declared.faults.CallFault.{CallFault}
-use Rattle.report.specs.declared.faults.CallFault.TheVariants.{Text}
-use Rattle.report.specs.declared.faults.LineFault.{LineFault}
+use Rattle.report.specs.declared.line_faults.CallFault.{CallFault}
+use Rattle.report.specs.declared.line_faults.CallFault.TheVariants.{Text}
+use Rattle.report.specs.declared.line_faults.LineFault.{LineFault}
 use Rattle.report.specs.declared.loads.Opened.{Opened}
 use Rattle.report.specs.declared.reports.Report.{Report}
 use Rattle.report.specs.Faults.{of_text, of_heap, on_line}

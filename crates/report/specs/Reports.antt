@@ -1,7 +1,7 @@
 -- The lines of the output, as values and as text.
 use Rattle.std.specs.Prelude.{ℕ, Bool, true, false, cond, List, [], ◌∷◌, ◌++◌, ℤ, pos, Ok, Err, codes, decimal, Result}
 use Rattle.std.specs.Fmt.{signed_decimal}
-use Rattle.report.specs.declared.faults.LineFault.{LineFault}
+use Rattle.report.specs.declared.line_faults.LineFault.{LineFault}
 use Rattle.report.specs.declared.reports.Report.{Report}
 use Rattle.report.specs.Faults.{fault_number, fault_position}
 

@@ -5,7 +5,7 @@ ghost use Rattle.load.specs.Names.{columns_in};
 ghost use Rattle.report.specs.Faults.{of_text};
 ghost use Rattle.report.specs.Loads.{within, heading, columns_of, behind, Worked};
 
-use crate::faults::{CallFault, LineFault, OnLine};
+use crate::line_faults::{CallFault, LineFault, OnLine};
 use faults::TextFault;
 use lexer::lines::next_line;
 use load::names::{Columns, columns_of};

@@ -3,7 +3,7 @@ ghost use Rattle.std.specs.Prelude.{◌≡◌, List, ◌++◌, IfOk, Some, strin
 ghost use Rattle.report.specs.Reports.{reported, shown_report, output};
 ghost use Rattle.report.specs.Reading.{ReadBack, OutputReadBack};
 
-use crate::faults::LineFault;
+use crate::line_faults::LineFault;
 use std::alloc::{AllocError, Global};
 use std::fmt;
 

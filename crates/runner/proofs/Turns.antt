@@ -9,8 +9,8 @@ use Rattle.graph.specs.Advance.{State, start, advance}
 use Rattle.faults.specs.declared.TextFault.{TextFault}
 use Rattle.load.specs.Calls.{parsed}
 use Rattle.load.specs.declared.names.Columns.{Columns}
-use Rattle.report.specs.declared.faults.CallFault.TheVariants.{Text}
-use Rattle.report.specs.declared.faults.LineFault.{LineFault}
+use Rattle.report.specs.declared.line_faults.CallFault.TheVariants.{Text}
+use Rattle.report.specs.declared.line_faults.LineFault.{LineFault}
 use Rattle.report.specs.declared.reports.Report.{Report}
 use Rattle.report.specs.Faults.{on_line}
 use Rattle.report.specs.Loads.{answered, runs, told, heading, behind, loaded}

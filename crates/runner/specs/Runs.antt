@@ -4,8 +4,8 @@ use Rattle.scheme.specs.Meaning.{Meaning}
 use Rattle.graph.specs.Advance.{State, advance}
 use Rattle.load.specs.Calls.{parsed}
 use Rattle.load.specs.declared.names.Columns.{Columns}
-use Rattle.report.specs.declared.faults.CallFault.{CallFault}
-use Rattle.report.specs.declared.faults.LineFault.{LineFault}
+use Rattle.report.specs.declared.line_faults.CallFault.{CallFault}
+use Rattle.report.specs.declared.line_faults.LineFault.{LineFault}
 use Rattle.report.specs.declared.reports.Report.{Report}
 use Rattle.report.specs.Faults.{on_line}
 use Rattle.report.specs.Loads.{answered, runs}

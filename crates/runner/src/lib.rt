@@ -15,7 +15,7 @@ use lexer::lines::next_line;
 use load::calls::parse_line;
 use load::names::Columns;
 use memory::Memory;
-use report::faults::{CallFault, LineFault, OnLine};
+use report::line_faults::{CallFault, LineFault, OnLine};
 use report::loads::open_load;
 use report::reports::{Report, output_of, report_of};
 use scheme::{Prefix, Scheme};

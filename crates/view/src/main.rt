@@ -10,7 +10,7 @@ use load::calls::parse_line;
 use load::names::Columns;
 use memory::Memory;
 use picture::Picture;
-use report::faults::{CallFault, OnLine};
+use report::line_faults::{CallFault, OnLine};
 use report::loads::open_load;
 use report::reports::{Report, report_of};
 use scheme::{Prefix, Scheme};

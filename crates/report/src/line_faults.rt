@@ -1,7 +1,7 @@
 // A refusal of the heap goes up to the call runner, and from there to the load line; each layer adds its place.
 ghost use Rattle.std.specs.Prelude.{◌≡◌, ℕ, Result};
-ghost use Rattle.report.specs.declared.faults.LineFault.{LineFault};
-ghost use Rattle.report.specs.declared.faults.CallFault.TheVariants.{Text, Heap};
+ghost use Rattle.report.specs.declared.line_faults.LineFault.{LineFault};
+ghost use Rattle.report.specs.declared.line_faults.CallFault.TheVariants.{Text, Heap};
 ghost use Rattle.report.specs.Faults.{fault_number, fault_position, on_line};
 
 use faults::TextFault;
