@@ -1,6 +1,6 @@
 /* A heap that packs itself, for C: records, layouts and maps in the caller's words, and 32 handles.
  *
- * The library is built by `rt staticlib clib` into target/staticlib/libclib.a. What the calls do, when they are refused and
+ * The library is built by `rt lib` in crates/clib, which writes crates/clib/out/libclib.a. What the calls do, when they are refused and
  * which words they leave is in docs/HEAP.md. This page says how to use them from C.
  *
  * Rules of use
