@@ -3,7 +3,7 @@ use Rattle.std.proofs.Common.{◌≡◌, ℕ, zero, suc, ◌^◌, ◌<◌, Bool,
 use lib.Signed.{mag}
 use Rattle.std.specs.Int.{IsInRange}
 use Rattle.std.specs.Fmt.{signed_decimal}
-use Rattle.std.specs.List.{AllByRecursion as All}
+use Rattle.std.specs.List.{AllByRecursion}
 use Rattle.std.specs.Str.{all_ascii_digits}
 use Rattle.std.proofs.lemmas.Fmt.{digits_decimal, digits_value-decimal}
 use Rattle.std.proofs.lemmas.Str.Parse.{IsNumeralModel, numerals_by_fold, tells_all_ascii_digits, not_in_digits}
@@ -96,7 +96,7 @@ module _ (r : Report) (fits : Fits r) where
 pub read_back : ReadBack
 read_back = back
 
-written_back : (rs : List Report) → All Fits rs → map read_report (lines (written rs)) ≡ map Some rs
+written_back : (rs : List Report) → AllByRecursion Fits rs → map read_report (lines (written rs)) ≡ map Some rs
 written_back [] fits = refl
 written_back (r ∷ rs) fits =
     ap (map read_report) (lines_more (shown_report r) (written rs) (one_line r fits.0))

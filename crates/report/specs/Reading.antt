@@ -1,7 +1,7 @@
 -- The output, read.
 use Rattle.std.specs.Prelude.{◌≡◌, ℕ, ◌^◌, ◌<◌, Bool, true, false, cond, List, [], ◌∷◌, map, ℤ, pos, neg_ℤ, Some, None, codes, Option, ◌==◌}
 use Rattle.std.specs.Int.Signed.{mag}
-use Rattle.std.specs.List.{AllByRecursion as All}
+use Rattle.std.specs.List.{AllByRecursion}
 use Rattle.std.specs.Str.{bytes_eq}
 use Rattle.numbers.specs.Numbers.{read_on}
 use Rattle.lexer.specs.Pieces.{lines, pieces}
@@ -39,4 +39,4 @@ ReadBack = (r : Report) → Fits r → read_report (shown_report r) ≡ Some r
 
 -- line by line: first the names of the columns, then the reports
 abbrev pub OutputReadBack : Type 0
-OutputReadBack = (rs : List Report) → All Fits rs → map read_report (lines (output rs)) ≡ None ∷ map Some rs
+OutputReadBack = (rs : List Report) → AllByRecursion Fits rs → map read_report (lines (output rs)) ≡ None ∷ map Some rs
