@@ -86,6 +86,8 @@ def declared():
 
 def main():
     found = declared()
+    if "high_end_is" in found:
+        sys.exit("respell: the names are in today's spelling already")
     turned = {}
     for name, (member, paths) in found.items():
         if "Answers.antt" in paths and len(paths) == 1 and re.match(r"(returns|loop|overflow|bounds|invariant)", name):

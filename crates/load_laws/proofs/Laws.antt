@@ -1,7 +1,7 @@
 -- The laws of lines.
 use Rattle.std.proofs.Common.{◌≡◌, ℕ, zero, suc, ◌+◌, ◌<◌, Bool, true, false, cond, eqb, ◌⊎◌, List, [], ◌∷◌, map, length, get_or, Some, None, Ok, Err, sum_by, Option, Result, sym, refl, ap, ◌∙◌, subst, inl, inr, ⊎_elim, arith}
 use Rattle.std.specs.Option.{ok_or}
-use Rattle.std.specs.List.{AllByRecursion as All}
+use Rattle.std.specs.List.{AllByRecursion}
 use Rattle.std.specs.List.Sorted.{IsPermutation}
 use Rattle.std.specs.Str.{bytes_eq}
 use Rattle.std.proofs.lemmas.Slice.Eq.{bytes_eq-Decides}
@@ -339,11 +339,11 @@ wide-line : (line : List ℕ) → suc (length line) ≡ sum_by wide (pieces line
 wide-line [] = refl
 wide-line (x ∷ xs) = wide_by (eqb x 32) x xs (wide-line xs)
 
-full-all : (vs : List (List ℕ)) → Full vs → All (λ v. 0 < length v) vs
+full-all : (vs : List (List ℕ)) → Full vs → AllByRecursion (λ v. 0 < length v) vs
 full-all [] h = h
 full-all (v ∷ vs) h = (h.0, full-all vs h.1)
 
-all-full : (vs : List (List ℕ)) → All (λ v. 0 < length v) vs → Full vs
+all-full : (vs : List (List ℕ)) → AllByRecursion (λ v. 0 < length v) vs → Full vs
 all-full [] h = h
 all-full (v ∷ vs) h = (h.0, all-full vs h.1)
 
