@@ -13,11 +13,9 @@ impl Memory for &mut [u8] {
     }
 
     fn read(&self, place: usize) -> u32 {
-        if place < self.len() / 4 {
-            let at = place * 4;
-            u32::from_be_bytes([self[at], self[at + 1], self[at + 2], self[at + 3]])
-        } else {
-            0
+        match self.as_chunks::<4>().0.get(place) {
+            Some(bytes) => u32::from_be_bytes(*bytes),
+            None => 0,
         }
     }
 
@@ -27,11 +25,7 @@ impl Memory for &mut [u8] {
     {
         if place < self.len() / 4 {
             let at = place * 4;
-            let [a, b, c, d] = word.to_be_bytes();
-            self[at] = a;
-            self[at + 1] = b;
-            self[at + 2] = c;
-            self[at + 3] = d;
+            self[at..at + 4].copy_from_slice(&word.to_be_bytes());
         }
     }
 }

@@ -10,7 +10,7 @@ impl Memory for &mut [u32] {
     }
 
     fn read(&self, place: usize) -> u32 {
-        if place < self.len() { self[place] } else { 0 }
+        self.get(place).copied().unwrap_or(0)
     }
 
     fn write(&mut self, place: usize, word: u32) {
