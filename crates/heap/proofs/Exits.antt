@@ -24,7 +24,7 @@ unaltered packs v e = refl
 
 module _ {M S X : Type 0} (words : M → List ℕ) (meaning : S → Meaning) (c : Call) (h : Heap M S) (f : X → ℤ) where
   -- the exit of a `?`: a condition stops the call
-  pub exits : (r : Result X Refusal) {e : Refusal} → IsErrAnd r (λ y. y ≡ e) → ((g : Graph) (s : List Bool) → Stands (meaning h.scheme) (view words h) g s → Stopped (row (meaning h.scheme) h.limit g c).0 e) → Meets words meaning c h h (outcome_of f r)
+  pub exits : (r : Result X Refusal) {e : Refusal} → IsErrAnd r (λ y. y ≡ e) → ((g : Graph) (s : List Bool) → Stands (meaning h.scheme) (view words h) g s → Stopped (row (meaning h.scheme) h.bounds.limit g c).0 e) → Meets words meaning c h h (outcome_of f r)
   exits r {e} by stop =
       let p = err_from_is_err_and r by in
       subst (λ (y : Result X Refusal). Meets words meaning c h h (outcome_of f y)) (sym (p.1 ∙ ap Err p.2))
@@ -35,5 +35,5 @@ module _ {M S X : Type 0} (words : M → List ℕ) (meaning : S → Meaning) (c 
       })
 
 -- the end of a call, where the scheme and the limit are as they were
-pub ends : {M S : Type 0} (words : M → List ℕ) (meaning : S → Meaning) (c : Call) (h k : Heap M S) (out : Outcome) → k.limit ≡ h.limit → k.scheme ≡ h.scheme → Alters (effect c (view words h)) (view words h) out (view words k) → ((g : Graph) (s : List Bool) → Stands (meaning h.scheme) (view words h) g s → Done (meaning h.scheme) c (view words h) g s (view words k) out) → Meets words meaning c h k out
+pub ends : {M S : Type 0} (words : M → List ℕ) (meaning : S → Meaning) (c : Call) (h k : Heap M S) (out : Outcome) → k.bounds.limit ≡ h.bounds.limit → k.scheme ≡ h.scheme → Alters (effect c (view words h)) (view words h) out (view words k) → ((g : Graph) (s : List Bool) → Stands (meaning h.scheme) (view words h) g s → Done (meaning h.scheme) c (view words h) g s (view words k) out) → Meets words meaning c h k out
 ends words meaning c h k out limit scheme alters done = record { follows = record { done = done; limit = limit }; alters = alters; scheme = scheme }

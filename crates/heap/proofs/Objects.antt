@@ -339,7 +339,7 @@ module _ (m : Meaning) (v : View) (g : Graph) (s : List Bool) (st : Stands m v g
 
 -- the exit of a making call that finds no room
 pub room-exits : {M S X : Type 0} (words : M → List ℕ) (meaning : S → Meaning) (c : Call) (h k : Heap M S) (f : X → ℤ) (need d : ℕ) (o : Graph → Object) (r : Result X Refusal) {e : Refusal} → IsErrAnd r (λ y. y ≡ e) → Rooms (meaning h.scheme) need (view words h) (view words k) (Err e) → k.scheme ≡ h.scheme → Alters (effect c (view words h)) (view words h) (Err e) (view words k)
-    → ((g : Graph) (s : List Bool) → Stands (meaning h.scheme) (view words h) g s → ((row (meaning h.scheme) h.limit g c).1 ≡ makes d (o g)) × (size (o g) ≡ need) × Passes (row (meaning h.scheme) h.limit g c).0)
+    → ((g : Graph) (s : List Bool) → Stands (meaning h.scheme) (view words h) g s → ((row (meaning h.scheme) h.bounds.limit g c).1 ≡ makes d (o g)) × (size (o g) ≡ need) × Passes (row (meaning h.scheme) h.bounds.limit g c).0)
     → Meets words meaning c h k (outcome_of f r)
 room-exits {M} {S} {X} words meaning c h k f need d o r {e} by rooms scheme alters made =
     let p = err_from_is_err_and r by in

@@ -13,6 +13,7 @@ use Rattle.graph.specs.Sound.{Sound}
 use Rattle.graph.proofs.Frame.{length-image}
 use Rattle.marking.specs.Begins.{BeginsWith}
 use Rattle.marking.specs.Begins as marking
+use Rattle.space.specs.declared.Bounds.{Bounds}
 use Rattle.space.specs.Layout.{Begun}
 use Rattle.space.specs.Collect.{Ended}
 use Rattle.space.specs.Collect as collect
@@ -22,6 +23,11 @@ use Rattle.heap.specs.Views.{Stands, Done, Follows, Packs, Tells}
 use Rattle.heap.specs.Checks.{Passes, none}
 use Rattle.heap.proofs.Acts.{shows, granted-done, tells-done}
 use Rattle.heap.specs.Phases.{Begins, Draws, Closes, GivesUp}
+
+-- bounds are the same where their three ends are
+pub bounds_same : {a b : Bounds} → a.low ≡ b.low → a.high ≡ b.high → a.limit ≡ b.limit → a ≡ b
+bounds_same {a} {b} low high limit =
+    ap₂ {C = Bounds} (λ (x y : ℕ). record { low = x; high = y; limit = a.limit }) low high ∙ ap {B = Bounds} (λ (x : ℕ). record { low = b.low; high = b.high; limit = x }) limit
 
 -- a heap at rest, by its words and the later ones
 pub stands_from : (m : Meaning) (v : View) (g : Graph) (s : List Bool) (rest : List ℕ) → Sound m v.limit g s → v.words ≡ image v.limit g s [] ++ rest → v.handles ≡ handle_words v.limit g s → v.limit ≡ min (length v.words) 16384 → v.low ≡ low_end g s → v.high ≡ high_end v.limit g s → Stands m v g s × (drop v.limit v.words ≡ rest)

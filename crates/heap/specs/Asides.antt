@@ -8,7 +8,7 @@ use Rattle.heap.specs.Effects.{View, parts}
 
 -- the heap of a memory, a scheme and what was put aside
 abbrev pub heap_of : {M S : Type 0} → M → S → Aside → Heap M S
-heap_of memory scheme a = record { space = record { memory = memory; handles = a.handles }; scheme = scheme; low = a.low; high = a.high; limit = a.limit }
+heap_of memory scheme a = record { space = record { memory = memory; handles = a.handles }; scheme = scheme; bounds = record { low = a.low; high = a.high; limit = a.limit } }
 
 -- the same by the memory's words
 abbrev pub view_of : List ℕ → Aside → View

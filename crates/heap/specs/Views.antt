@@ -15,7 +15,7 @@ use Rattle.heap.specs.declared.Heap.{Heap}
 use Rattle.heap.specs.Effects.{View, effect, Alters}
 
 abbrev pub view : {M S : Type 0} → (M → List ℕ) → Heap M S → View
-view words h = record { words = words h.space.memory; handles = h.space.handles; low = h.low; high = h.high; limit = h.limit }
+view words h = record { words = words h.space.memory; handles = h.space.handles; low = h.bounds.low; high = h.bounds.high; limit = h.bounds.limit }
 
 -- the heap rests with the graph and the standing objects
 pub record Stands (m : Meaning) (v : View) (g : Graph) (s : List Bool) : Type 0 where

@@ -5,7 +5,7 @@ ghost use Rattle.heap.specs.Asides.{heap_of, Resumes};
 use crate::{Begun, Drawn, Heap};
 use memory::Memory;
 use scheme::Scheme;
-use space::Space;
+use space::{Bounds, Space};
 
 const RESTING: u32 = 0;
 
@@ -43,9 +43,11 @@ impl<M: Memory, S: Scheme> Phase<M, S> {
                 handles: aside.handles,
             },
             scheme,
-            low: aside.low,
-            high: aside.high,
-            limit: aside.limit,
+            bounds: Bounds {
+                low: aside.low,
+                high: aside.high,
+                limit: aside.limit,
+            },
         };
         let live = aside.live;
         if aside.phase == RESTING {
@@ -75,16 +77,14 @@ fn apart<M: Memory, S: Scheme>(heap: Heap<M, S>, phase: u32, live: u32) -> (M, S
     let Heap {
         space,
         scheme,
-        low,
-        high,
-        limit,
+        bounds,
     } = heap;
     let Space { memory, handles } = space;
     let aside = Aside {
         phase,
-        low,
-        high,
-        limit,
+        low: bounds.low,
+        high: bounds.high,
+        limit: bounds.limit,
         live,
         handles,
     };

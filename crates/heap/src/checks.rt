@@ -73,7 +73,7 @@ pub(crate) fn part_at(part: u32) -> (Kind, usize)
 impl<M: Memory, S: Scheme> Heap<M, S> {
     /// The kind of the value that a word stands for.
     pub(crate) fn kind_of(&self, word: u32) -> Kind
-        ensures { (g : Graph) (s : List Bool) (v : Value) → Stands (S.Scheme.meaning self.now.scheme) (view M.Memory.words self.now) g s → Means self.now.limit g s word v → kind_number result ≡ kind_of g v }
+        ensures { (g : Graph) (s : List Bool) (v : Value) → Stands (S.Scheme.meaning self.now.scheme) (view M.Memory.words self.now) g s → Means self.now.bounds.limit g s word v → kind_number result ≡ kind_of g v }
     {
         let tag = word % 4;
         if tag == 0 {
@@ -94,7 +94,7 @@ impl<M: Memory, S: Scheme> Heap<M, S> {
 
     /// The value that a word stands for has the kind.
     pub(crate) fn check_kind(&self, word: u32, kind: Kind, at: u8) -> Result<(), Refusal>
-        ensures { (g : Graph) (s : List Bool) (v : Value) → Stands (S.Scheme.meaning self.now.scheme) (view M.Memory.words self.now) g s → Means self.now.limit g s word v → Sifts (is_kind g v (kind_number kind) at ∷ []) (λ _. Unit {0}) result }
+        ensures { (g : Graph) (s : List Bool) (v : Value) → Stands (S.Scheme.meaning self.now.scheme) (view M.Memory.words self.now) g s → Means self.now.bounds.limit g s word v → Sifts (is_kind g v (kind_number kind) at ∷ []) (λ _. Unit {0}) result }
     {
         if self.kind_of(word) == kind {
             Ok(())
@@ -105,7 +105,7 @@ impl<M: Memory, S: Scheme> Heap<M, S> {
 
     /// The rule of the map of a layout, from the layout's reference.
     pub(crate) fn rule_of(&self, word: u32) -> u32
-        ensures { (g : Graph) (s : List Bool) (q : ℕ) → Stands (S.Scheme.meaning self.now.scheme) (view M.Memory.words self.now) g s → slice_index_or s q false ≡ true → object_kind (object_at g q) ≡ 3 → word ≡ reference self.now.limit g s q → result ≡ figure_of (object_at g (map_of (object_at g q))) }
+        ensures { (g : Graph) (s : List Bool) (q : ℕ) → Stands (S.Scheme.meaning self.now.scheme) (view M.Memory.words self.now) g s → slice_index_or s q false ≡ true → object_kind (object_at g q) ≡ 3 → word ≡ reference self.now.bounds.limit g s q → result ≡ figure_of (object_at g (map_of (object_at g q))) }
     {
         let map = self.space.memory.read(word as usize / 4 + 2);
         self.space.memory.read(map as usize / 4 + 1)
@@ -120,7 +120,7 @@ impl<M: Memory, S: Scheme> Heap<M, S> {
         raw: bool,
     ) -> Result<usize, Refusal>
         ensures place { IfOk result (λ p. p ≡ word / 4 + (2 + field)) }
-        ensures sifts { (g : Graph) (s : List Bool) (v : Value) → Stands (S.Scheme.meaning self.now.scheme) (view M.Memory.words self.now) g s → Means self.now.limit g s word v → kind_of g v ≡ 2 → Sifts (has_field g v field at ∷ is_sort g v field raw at ∷ []) (λ p. p ≡ word / 4 + (2 + field)) result }
+        ensures sifts { (g : Graph) (s : List Bool) (v : Value) → Stands (S.Scheme.meaning self.now.scheme) (view M.Memory.words self.now) g s → Means self.now.bounds.limit g s word v → kind_of g v ≡ 2 → Sifts (has_field g v field at ∷ is_sort g v field raw at ∷ []) (λ p. p ≡ word / 4 + (2 + field)) result }
     {
         let place = word as usize / 4;
         let size = self.space.memory.read(place) / 16;
@@ -144,7 +144,7 @@ impl<M: Memory, S: Scheme> Heap<M, S> {
         raw: bool,
     ) -> Result<usize, Refusal>
         ensures place { IfOk result (λ p. p ≡ word / 4 + (2 + field)) }
-        ensures sifts { (g : Graph) (s : List Bool) (v : Value) → Stands (S.Scheme.meaning self.now.scheme) (view M.Memory.words self.now) g s → Means self.now.limit g s word v → Sifts (is_kind g v 2 at ∷ has_field g v field field_at ∷ is_sort g v field raw field_at ∷ []) (λ p. p ≡ word / 4 + (2 + field)) result }
+        ensures sifts { (g : Graph) (s : List Bool) (v : Value) → Stands (S.Scheme.meaning self.now.scheme) (view M.Memory.words self.now) g s → Means self.now.bounds.limit g s word v → Sifts (is_kind g v 2 at ∷ has_field g v field field_at ∷ is_sort g v field raw field_at ∷ []) (λ p. p ≡ word / 4 + (2 + field)) result }
     {
         self.check_kind(word, Kind::Record, at)?;
         self.field_of(word, field, field_at, raw)
@@ -163,7 +163,7 @@ impl<M: Memory, S: Scheme> Heap<M, S> {
 
     /// The value of a word is a parent: empty or a map.
     pub(crate) fn check_parent(&self, word: u32, at: u8) -> Result<(), Refusal>
-        ensures { (g : Graph) (s : List Bool) (v : Value) → Stands (S.Scheme.meaning self.now.scheme) (view M.Memory.words self.now) g s → Means self.now.limit g s word v → Sifts (is_parent g v at ∷ []) (λ _. Unit {0}) result }
+        ensures { (g : Graph) (s : List Bool) (v : Value) → Stands (S.Scheme.meaning self.now.scheme) (view M.Memory.words self.now) g s → Means self.now.bounds.limit g s word v → Sifts (is_parent g v at ∷ []) (λ _. Unit {0}) result }
     {
         match self.kind_of(word) {
             Kind::Empty | Kind::Map => Ok(()),
@@ -174,7 +174,7 @@ impl<M: Memory, S: Scheme> Heap<M, S> {
     /// The value of a word is a layout; then how many words its records take. No layout of a heap at rest has more than 32 fields.
     pub(crate) fn record_size(&self, word: u32, at: u8) -> Result<u32, Refusal>
         ensures counted { IfOk result (λ n. n ≡ 2 + min (slice_index (M.Memory.words self.now.space.memory) (word / 4 + 1)) 32) }
-        ensures size { (g : Graph) (s : List Bool) (v : Value) → Stands (S.Scheme.meaning self.now.scheme) (view M.Memory.words self.now) g s → Means self.now.limit g s word v → Sifts (is_kind g v 3 at ∷ []) (λ n. n ≡ 2 + figure_of (object_of g v)) result }
+        ensures size { (g : Graph) (s : List Bool) (v : Value) → Stands (S.Scheme.meaning self.now.scheme) (view M.Memory.words self.now) g s → Means self.now.bounds.limit g s word v → Sifts (is_kind g v 3 at ∷ []) (λ n. n ≡ 2 + figure_of (object_of g v)) result }
     {
         self.check_kind(word, Kind::Layout, at)?;
         Ok(2 + self.space.memory.read(word as usize / 4 + 1).min(32))
@@ -182,7 +182,7 @@ impl<M: Memory, S: Scheme> Heap<M, S> {
 
     /// The value of a word is an object; then the field count of a record or layout, or the rule of a map.
     pub(crate) fn figure_of(&self, word: u32, at: u8) -> Result<u32, Refusal>
-        ensures { (g : Graph) (s : List Bool) (v : Value) → Stands (S.Scheme.meaning self.now.scheme) (view M.Memory.words self.now) g s → Means self.now.limit g s word v → Sifts (is_object g v at ∷ []) (λ n. n ≡ figure_of (object_of g v)) result }
+        ensures { (g : Graph) (s : List Bool) (v : Value) → Stands (S.Scheme.meaning self.now.scheme) (view M.Memory.words self.now) g s → Means self.now.bounds.limit g s word v → Sifts (is_object g v at ∷ []) (λ n. n ≡ figure_of (object_of g v)) result }
     {
         let place = value::place_of(word) as usize;
         match self.kind_of(word) {

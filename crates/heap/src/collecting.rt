@@ -16,13 +16,7 @@ impl<M: Memory, S: Scheme> Heap<M, S> {
         ensures begins { Begins (S.Scheme.meaning self.old.scheme) (view M.Memory.words self.old) (view M.Memory.words self.new) result }
         ensures scheme { self.new.scheme ≡ self.old.scheme }
     {
-        begin(
-            &mut self.space,
-            &self.scheme,
-            self.limit,
-            self.low,
-            self.high,
-        )
+        begin(&mut self.space, &self.scheme, self.bounds)
     }
 
     /// Takes the marks off again.
@@ -30,7 +24,7 @@ impl<M: Memory, S: Scheme> Heap<M, S> {
         ensures rests { GivesUp (S.Scheme.meaning self.old.scheme) (view M.Memory.words self.old) (view M.Memory.words self.new) }
         ensures scheme { self.new.scheme ≡ self.old.scheme }
     {
-        give_up(&mut self.space, self.limit, self.low, self.high);
+        give_up(&mut self.space, self.bounds);
     }
 
     /// The forward update of the marked objects.
@@ -38,8 +32,7 @@ impl<M: Memory, S: Scheme> Heap<M, S> {
         ensures draws { Draws (S.Scheme.meaning self.old.scheme) (view M.Memory.words self.old) (view M.Memory.words self.new) }
         ensures scheme { self.new.scheme ≡ self.old.scheme }
     {
-        self.space
-            .draw(&self.scheme, self.limit, self.low, self.high);
+        self.space.draw(&self.scheme, self.bounds);
     }
 
     /// The backward update: the marked objects slide outward and lose their marks.
@@ -47,9 +40,7 @@ impl<M: Memory, S: Scheme> Heap<M, S> {
         ensures closes { Closes (S.Scheme.meaning self.old.scheme) (view M.Memory.words self.old) (view M.Memory.words self.new) }
         ensures scheme { self.new.scheme ≡ self.old.scheme }
     {
-        let (low, high) = self.space.close(self.limit, self.low, self.high);
-        self.low = low;
-        self.high = high;
+        self.bounds = self.space.close(self.bounds);
     }
 
     /// Packs the reachable objects, and tells the live words.
@@ -66,8 +57,7 @@ impl<M: Memory, S: Scheme> Heap<M, S> {
     /// Tells the live words, and leaves everything as it was.
     pub(crate) fn weigh(&mut self) -> u32
         ensures tells { Tells (S.Scheme.meaning self.old.scheme) (view M.Memory.words self.old) (view M.Memory.words self.new) result }
-        ensures low { self.new.low ≡ self.old.low }
-        ensures high { self.new.high ≡ self.old.high }
+        ensures bounds { self.new.bounds ≡ self.old.bounds }
         ensures scheme { self.new.scheme ≡ self.old.scheme }
     {
         let live = self.mark();
@@ -87,7 +77,7 @@ impl<M: Memory, S: Scheme> Heap<M, S> {
         ensures { Meets M.Memory.words S.Scheme.meaning Fill self.old self.new (Ok (pos result)) }
     {
         let live = self.weigh();
-        percent(live, self.limit)
+        percent(live, self.bounds.limit)
     }
 }
 

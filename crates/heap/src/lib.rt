@@ -3,7 +3,7 @@
 
 use memory::Memory;
 use scheme::Scheme;
-use space::Space;
+use space::{Bounds, Space};
 
 mod aside;
 mod checks;
@@ -24,13 +24,11 @@ pub use aside::{Aside, Phase};
 /// The most words that a heap uses, whatever its memory has.
 pub const WORDS: usize = 16384;
 
-/// A heap at rest: its words and handles, where its records end and its classes begin, and how many words it has.
+/// A heap at rest: its words and handles, its scheme, and where its two sides end.
 pub struct Heap<M: Memory, S: Scheme> {
     space: Space<M>,
     scheme: S,
-    low: u32,
-    high: u32,
-    limit: u32,
+    bounds: Bounds,
 }
 
 /// A heap whose collection is begun: exactly its reachable objects are marked. It takes no call; draw it, or give the collection up.

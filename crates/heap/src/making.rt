@@ -34,11 +34,11 @@ impl<M: Memory, S: Scheme> Heap<M, S> {
         ensures rooms { Rooms (S.Scheme.meaning self.old.scheme) need (view M.Memory.words self.old) (view M.Memory.words self.new) result }
         ensures scheme { self.new.scheme ≡ self.old.scheme }
     {
-        if self.high.saturating_sub(self.low) >= need {
+        if self.bounds.high.saturating_sub(self.bounds.low) >= need {
             return Ok(());
         }
         let live = self.reclaim();
-        if live as usize + need as usize > self.limit as usize {
+        if live as usize + need as usize > self.bounds.limit as usize {
             return Err(Refusal::Full);
         }
         Ok(())
@@ -49,9 +49,7 @@ impl<M: Memory, S: Scheme> Heap<M, S> {
         requires { length words.now ≤ 34 }
         ensures memory { M.Memory.words self.new.space.memory ≡ put (M.Memory.words self.old.space.memory) place words.now }
         ensures handles { self.new.space.handles ≡ self.old.space.handles }
-        ensures low { self.new.low ≡ self.old.low }
-        ensures high { self.new.high ≡ self.old.high }
-        ensures limit { self.new.limit ≡ self.old.limit }
+        ensures bounds { self.new.bounds ≡ self.old.bounds }
         ensures scheme { self.new.scheme ≡ self.old.scheme }
     {
         for (i, word) in words.iter().enumerate() {
@@ -62,34 +60,34 @@ impl<M: Memory, S: Scheme> Heap<M, S> {
     /// Puts a new class innermost on its side, and gives the reference to it.
     fn put_class(&mut self, size: u32, words: &[u32]) -> u32
         requires { length words.now ≤ 34 }
-        ensures memory { M.Memory.words self.new.space.memory ≡ put (M.Memory.words self.old.space.memory) (self.old.high - size) words.now }
+        ensures memory { M.Memory.words self.new.space.memory ≡ put (M.Memory.words self.old.space.memory) (self.old.bounds.high - size) words.now }
         ensures handles { self.new.space.handles ≡ self.old.space.handles }
-        ensures low { self.new.low ≡ self.old.low }
-        ensures high { self.new.high ≡ self.old.high - size }
-        ensures limit { self.new.limit ≡ self.old.limit }
+        ensures low { self.new.bounds.low ≡ self.old.bounds.low }
+        ensures high { self.new.bounds.high ≡ self.old.bounds.high - size }
+        ensures limit { self.new.bounds.limit ≡ self.old.bounds.limit }
         ensures scheme { self.new.scheme ≡ self.old.scheme }
-        ensures reference { self.old.high - size < 16384 → result ≡ (self.old.high - size) * 4 + 3 }
+        ensures reference { self.old.bounds.high - size < 16384 → result ≡ (self.old.bounds.high - size) * 4 + 3 }
     {
-        let place = self.high.saturating_sub(size);
+        let place = self.bounds.high.saturating_sub(size);
         self.put(place, words);
-        self.high = place;
+        self.bounds.high = place;
         value::to_class(place)
     }
 
     /// Puts a new record innermost on its side, and gives the reference to it.
     fn put_record(&mut self, size: u32, words: &[u32]) -> u32
         requires { length words.now ≤ 34 }
-        ensures memory { M.Memory.words self.new.space.memory ≡ put (M.Memory.words self.old.space.memory) self.old.low words.now }
+        ensures memory { M.Memory.words self.new.space.memory ≡ put (M.Memory.words self.old.space.memory) self.old.bounds.low words.now }
         ensures handles { self.new.space.handles ≡ self.old.space.handles }
-        ensures low { self.old.low < 16384 → size ≤ 34 → self.new.low ≡ self.old.low + size }
-        ensures high { self.new.high ≡ self.old.high }
-        ensures limit { self.new.limit ≡ self.old.limit }
+        ensures low { self.old.bounds.low < 16384 → size ≤ 34 → self.new.bounds.low ≡ self.old.bounds.low + size }
+        ensures high { self.new.bounds.high ≡ self.old.bounds.high }
+        ensures limit { self.new.bounds.limit ≡ self.old.bounds.limit }
         ensures scheme { self.new.scheme ≡ self.old.scheme }
-        ensures reference { self.old.low < 16384 → result ≡ self.old.low * 4 + 2 }
+        ensures reference { self.old.bounds.low < 16384 → result ≡ self.old.bounds.low * 4 + 2 }
     {
-        let place = self.low;
+        let place = self.bounds.low;
         self.put(place, words);
-        self.low = place.saturating_add(size);
+        self.bounds.low = place.saturating_add(size);
         value::to_record(place)
     }
 

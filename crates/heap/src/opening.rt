@@ -6,13 +6,13 @@ ghost use Rattle.heap.specs.Views.{view, Stands};
 use crate::{Heap, WORDS};
 use memory::Memory;
 use scheme::Scheme;
-use space::Space;
+use space::{Bounds, Space};
 
 impl<M: Memory, S: Scheme> Heap<M, S> {
     /// A new heap over the first words of the memory, at most 16,384: 0 in each, and empty handles. Later words stay.
     pub fn new(mut memory: M, scheme: S) -> Self
-        ensures zeros { M.Memory.words result.space.memory ≡ replicate result.limit 0 ++ drop result.limit (M.Memory.words memory) }
-        ensures limit { result.limit ≡ min (length (M.Memory.words memory)) 16384 }
+        ensures zeros { M.Memory.words result.space.memory ≡ replicate result.bounds.limit 0 ++ drop result.bounds.limit (M.Memory.words memory) }
+        ensures limit { result.bounds.limit ≡ min (length (M.Memory.words memory)) 16384 }
         ensures scheme { result.scheme ≡ scheme }
         ensures stands { Stands (S.Scheme.meaning scheme) (view M.Memory.words result) bare [] }
     {
@@ -26,9 +26,11 @@ impl<M: Memory, S: Scheme> Heap<M, S> {
                 handles: [0; 32],
             },
             scheme,
-            low: 0,
-            high: limit as u32,
-            limit: limit as u32,
+            bounds: Bounds {
+                low: 0,
+                high: limit as u32,
+                limit: limit as u32,
+            },
         }
     }
 
@@ -39,9 +41,7 @@ impl<M: Memory, S: Scheme> Heap<M, S> {
         let Heap {
             space: Space { memory, handles: _ },
             scheme,
-            low: _,
-            high: _,
-            limit: _,
+            bounds: _,
         } = self;
         (memory, scheme)
     }

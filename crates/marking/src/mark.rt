@@ -7,7 +7,7 @@ ghost use Rattle.marking.specs.Marks.{MarkedAt, Scanned, Drained, Rescanned, Roo
 use crate::Pending;
 use memory::Memory;
 use scheme::Scheme;
-use space::{Classes, Records, Side, Space, WORDS, is_value};
+use space::{Bounds, Classes, Records, Side, Space, WORDS, is_value};
 
 impl Pending {
     // Marks the object at a place, and keeps the place while there is room.
@@ -108,11 +108,9 @@ impl Pending {
         &mut self,
         space: &mut Space<M>,
         scheme: &S,
-        limit: u32,
-        low: u32,
-        high: u32,
+        bounds: Bounds,
     )
-        ensures settled { Settled (S.Scheme.meaning scheme.now) limit low high (M.Memory.words space.old.memory) space.old.handles self.old (M.Memory.words space.new.memory) space.new.handles self.new }
+        ensures settled { Settled (S.Scheme.meaning scheme.now) bounds.limit bounds.low bounds.high (M.Memory.words space.old.memory) space.old.handles self.old (M.Memory.words space.new.memory) space.new.handles self.new }
         ensures kept { Kept (M.Memory.words space.old.memory) space.old.handles (M.Memory.words space.new.memory) space.new.handles }
     {
         self.drain(space, scheme);
@@ -121,8 +119,8 @@ impl Pending {
                 break;
             }
             self.overflow = false;
-            self.rescan::<Records, M, S>(space, scheme, 0, low);
-            self.rescan::<Classes, M, S>(space, scheme, limit, high);
+            self.rescan::<Records, M, S>(space, scheme, 0, bounds.low);
+            self.rescan::<Classes, M, S>(space, scheme, bounds.limit, bounds.high);
         }
     }
 }
@@ -131,11 +129,9 @@ impl Pending {
 pub fn begin<M: Memory, S: Scheme>(
     space: &mut Space<M>,
     scheme: &S,
-    limit: u32,
-    low: u32,
-    high: u32,
+    bounds: Bounds,
 ) -> u32
-    ensures { Begins (S.Scheme.meaning scheme.now) limit low high (M.Memory.words space.old.memory) space.old.handles (M.Memory.words space.new.memory) space.new.handles result }
+    ensures { Begins (S.Scheme.meaning scheme.now) bounds.limit bounds.low bounds.high (M.Memory.words space.old.memory) space.old.handles (M.Memory.words space.new.memory) space.new.handles result }
 {
     let mut pending = Pending {
         places: [0; 64],
@@ -144,6 +140,6 @@ pub fn begin<M: Memory, S: Scheme>(
         live: 0,
     };
     pending.mark_handles(space);
-    pending.settle(space, scheme, limit, low, high);
+    pending.settle(space, scheme, bounds);
     pending.live
 }

@@ -4,7 +4,7 @@ ghost use Rattle.marking.specs.Unmarks.{UnmarkedSide};
 ghost use Rattle.marking.specs.Begins.{GivesUp};
 
 use memory::Memory;
-use space::{Classes, Records, Side, Space, WORDS};
+use space::{Bounds, Classes, Records, Side, Space, WORDS};
 
 // Takes the marks off a side.
 fn unmark_side<T: Side, M: Memory>(space: &mut Space<M>, from: u32, end: u32)
@@ -26,9 +26,9 @@ fn unmark_side<T: Side, M: Memory>(space: &mut Space<M>, from: u32, end: u32)
 }
 
 /// Takes every mark off.
-pub fn give_up<M: Memory>(space: &mut Space<M>, limit: u32, low: u32, high: u32)
-    ensures { GivesUp limit low high (M.Memory.words space.old.memory) space.old.handles (M.Memory.words space.new.memory) space.new.handles }
+pub fn give_up<M: Memory>(space: &mut Space<M>, bounds: Bounds)
+    ensures { GivesUp bounds.limit bounds.low bounds.high (M.Memory.words space.old.memory) space.old.handles (M.Memory.words space.new.memory) space.new.handles }
 {
-    unmark_side::<Records, M>(space, 0, low);
-    unmark_side::<Classes, M>(space, limit, high);
+    unmark_side::<Records, M>(space, 0, bounds.low);
+    unmark_side::<Classes, M>(space, bounds.limit, bounds.high);
 }

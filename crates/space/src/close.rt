@@ -4,7 +4,7 @@ ghost use Rattle.space.specs.Weave.{Kept};
 ghost use Rattle.space.specs.Pass.{Closed, ClosedSide};
 ghost use Rattle.space.specs.Collect.{Closes};
 
-use crate::{Classes, Records, Side, Space, WORDS};
+use crate::{Bounds, Classes, Records, Side, Space, WORDS};
 use memory::Memory;
 
 // The header without its mark.
@@ -54,13 +54,18 @@ impl<M: Memory> Space<M> {
     }
 
     /// The backward update; answers where the sides now end.
-    pub fn close(&mut self, limit: u32, low: u32, high: u32) -> (u32, u32)
-        ensures closed { Closes (M.Memory.words self.old.memory) self.old.handles limit low high result.0 result.1 (M.Memory.words self.new.memory) self.new.handles }
+    pub fn close(&mut self, bounds: Bounds) -> Bounds
+        ensures closed { Closes (M.Memory.words self.old.memory) self.old.handles bounds.limit bounds.low bounds.high result.low result.high (M.Memory.words self.new.memory) self.new.handles }
+        ensures limit { result.limit ≡ bounds.limit }
         ensures kept { Kept (M.Memory.words self.old.memory) self.old.handles (M.Memory.words self.new.memory) self.new.handles }
     {
-        let low = self.close_side::<Records>(0, low);
-        let high = self.close_side::<Classes>(limit, high);
+        let low = self.close_side::<Records>(0, bounds.low);
+        let high = self.close_side::<Classes>(bounds.limit, bounds.high);
         self.wipe(low, high);
-        (low, high)
+        Bounds {
+            low,
+            high,
+            ..bounds
+        }
     }
 }

@@ -5,7 +5,7 @@ ghost use Rattle.space.specs.Pass.{ThreadedWords, ThreadedHandles, Visited, Draw
 ghost use Rattle.space.specs.Collect.{DrawsRecords, DrawsClasses, Draws};
 
 use crate::slot::is_value;
-use crate::{Classes, Records, Side, Space, WORDS};
+use crate::{Bounds, Classes, Records, Side, Space, WORDS};
 use memory::Memory;
 use scheme::Scheme;
 
@@ -69,28 +69,28 @@ impl<M: Memory> Space<M> {
     }
 
     /// The forward update of the handles and the records.
-    pub fn draw_records<S: Scheme>(&mut self, scheme: &S, low: u32)
-        ensures drawn { DrawsRecords (S.Scheme.meaning scheme.now) (M.Memory.words self.old.memory) self.old.handles low (M.Memory.words self.new.memory) self.new.handles }
+    pub fn draw_records<S: Scheme>(&mut self, scheme: &S, bounds: Bounds)
+        ensures drawn { DrawsRecords (S.Scheme.meaning scheme.now) (M.Memory.words self.old.memory) self.old.handles bounds.low (M.Memory.words self.new.memory) self.new.handles }
         ensures kept { Kept (M.Memory.words self.old.memory) self.old.handles (M.Memory.words self.new.memory) self.new.handles }
     {
         self.thread_handles();
-        self.draw_side::<Records, S>(scheme, 0, low);
+        self.draw_side::<Records, S>(scheme, 0, bounds.low);
     }
 
     /// The forward update of the classes, once all records are done: until then every word of a class but its header is as it was.
-    pub fn draw_classes<S: Scheme>(&mut self, scheme: &S, limit: u32, high: u32)
-        ensures drawn { DrawsClasses (S.Scheme.meaning scheme.now) (M.Memory.words self.old.memory) self.old.handles limit high (M.Memory.words self.new.memory) self.new.handles }
+    pub fn draw_classes<S: Scheme>(&mut self, scheme: &S, bounds: Bounds)
+        ensures drawn { DrawsClasses (S.Scheme.meaning scheme.now) (M.Memory.words self.old.memory) self.old.handles bounds.limit bounds.high (M.Memory.words self.new.memory) self.new.handles }
         ensures kept { Kept (M.Memory.words self.old.memory) self.old.handles (M.Memory.words self.new.memory) self.new.handles }
     {
-        self.draw_side::<Classes, S>(scheme, limit, high);
+        self.draw_side::<Classes, S>(scheme, bounds.limit, bounds.high);
     }
 
     /// The forward update.
-    pub fn draw<S: Scheme>(&mut self, scheme: &S, limit: u32, low: u32, high: u32)
-        ensures drawn { Draws (S.Scheme.meaning scheme.now) (M.Memory.words self.old.memory) self.old.handles limit low high (M.Memory.words self.new.memory) self.new.handles }
+    pub fn draw<S: Scheme>(&mut self, scheme: &S, bounds: Bounds)
+        ensures drawn { Draws (S.Scheme.meaning scheme.now) (M.Memory.words self.old.memory) self.old.handles bounds.limit bounds.low bounds.high (M.Memory.words self.new.memory) self.new.handles }
         ensures kept { Kept (M.Memory.words self.old.memory) self.old.handles (M.Memory.words self.new.memory) self.new.handles }
     {
-        self.draw_records(scheme, low);
-        self.draw_classes(scheme, limit, high);
+        self.draw_records(scheme, bounds);
+        self.draw_classes(scheme, bounds);
     }
 }

@@ -17,7 +17,7 @@ pub loop-i-preserved : goal.loop-i-preserved
 loop-i-preserved g c =
     let inv = c.loop-i.invariant in
     let m : Meaning = g.S.Scheme.meaning c.args.heap.now.scheme in
-    let W : ℕ = c.args.heap.now.limit in
+    let W : ℕ = c.args.heap.now.bounds.limit in
     let calls = c.args.calls.now in
     let i = c.loop-i.i in
     let none : CallWords = record { number = 0; a = 0; b = 0; c = 0; d = 0 } in
@@ -47,7 +47,7 @@ pub returns : goal.returns
 returns g c =
     let inv = c.loop-i.invariant in
     let m : Meaning = g.S.Scheme.meaning c.args.heap.now.scheme in
-    let W : ℕ = c.args.heap.now.limit in
+    let W : ℕ = c.args.heap.now.bounds.limit in
     let calls = c.args.calls.now in
     let end : c.loop-i.i ≡ c.min-given.result = omega (arith, c.loop-i.auto.i-end, c.loop-i-test.false) in
     record {

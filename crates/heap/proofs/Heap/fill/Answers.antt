@@ -1,5 +1,6 @@
 use Rattle.std.proofs.Common.{◌≡◌, ℕ, [], pos, sym, ap, ◌∙◌, ap₂, arith}
 use Rattle.graph.specs.declared.Call.TheVariants.{Fill}
+use Rattle.space.specs.declared.Bounds.{Bounds}
 use Rattle.graph.specs.Reach.{live_words}
 use Rattle.graph.specs.Step.{tells, percent}
 use Rattle.heap.proofs.Stepping.{tells-follow, live_small}
@@ -13,12 +14,12 @@ returns g c =
           (λ gr s st.
           let told = weigh.tells.told gr s st in
           let small = live_small _ _ gr s st in
-          let W = c.args.self.now.limit in
-          let limit : c.weigh-live.new.self.limit ≡ W = weigh.tells.limit in
+          let W = c.args.self.now.bounds.limit in
+          let limit : c.weigh-live.new.self.bounds.limit ≡ W = weigh.tells.limit in
           let is : c.percent.result ≡ percent (live_words gr) W =
           c.percent.ensures (omega (arith, told, small.0)) (omega (arith, limit, small.1)) ∙ ap₂ percent told limit in
           ap (λ (n : ℕ). ([], tells (pos n))) (sym is))
           weigh.tells;
-      alters = (weigh.low, weigh.high, weigh.tells.limit);
+      alters = (ap (λ (b : Bounds). b.low) weigh.bounds, ap (λ (b : Bounds). b.high) weigh.bounds, weigh.tells.limit);
       scheme = weigh.scheme;
     }

@@ -40,4 +40,4 @@ returns g c =
     let f = found _ _ gr s st (held gr o) _ i 2 3 _ is (all_pass q) in
     sets-done _ (Load c.args.target o i) _ gr s st c.args.target _ (cell_value (cell_in gr o i)) refl
     (passed c.in_ok-check_handle.ensures (passed c.in_ok-check_handle-2.ensures (all_pass q)))
-    (word ∙ f.owner.field_word_is i f.inside ∙ value-word (reference c.args.self.now.limit gr s) (cell_in gr o i) f.sort_found)
+    (word ∙ f.owner.field_word_is i f.inside ∙ value-word (reference c.args.self.now.bounds.limit gr s) (cell_in gr o i) f.sort_found)

@@ -19,8 +19,6 @@ loop-i-preserved g c =
       inv.1,
       inv.2,
       inv.3,
-      inv.4,
-      inv.5,
     )
 
 pub returns : goal.returns
@@ -29,8 +27,6 @@ returns g c =
     record {
       memory = inv.0 ∙ ap (put (g.M.Memory.words c.args.self.now.space.memory) c.args.place) (take_all c.loop-i.i c.args.words.now (omega arith));
       handles = inv.1;
-      low = inv.2;
-      high = inv.3;
-      limit = inv.4;
-      scheme = inv.5;
+      bounds = inv.2;
+      scheme = inv.3;
     }

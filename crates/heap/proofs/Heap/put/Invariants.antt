@@ -6,7 +6,5 @@ abbrev pub invariant-loop-i : goal.invariant-loop-i
 invariant-loop-i g l =
     (g.M.Memory.words l.self.space.memory ≡ put (g.M.Memory.words l.initial.self.space.memory) l.place (take l.i l.words))
     × (l.self.space.handles ≡ l.initial.self.space.handles)
-    × (l.self.low ≡ l.initial.self.low)
-    × (l.self.high ≡ l.initial.self.high)
-    × (l.self.limit ≡ l.initial.self.limit)
+    × (l.self.bounds ≡ l.initial.self.bounds)
     × (l.self.scheme ≡ l.initial.self.scheme)

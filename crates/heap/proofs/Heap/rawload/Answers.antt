@@ -27,6 +27,6 @@ returns g c =
     let is = held-means _ _ gr s st o c.in_ok-check_handle.ensures.gives in
     let q = c.in_ok-place.ensures.sifts gr s (held gr o) st is in
     let f = found _ _ gr s st (held gr o) _ i 1 2 _ is (all_pass q) in
-    let w = c.read.ensures ∙ ap (λ (p : ℕ). get_or (g.M.Memory.words c.args.self.now.space.memory) p 0) q.gives ∙ f.owner.field_word_is i f.inside ∙ raw_word (reference c.args.self.now.limit gr s) (cell_in gr o i) f.sort_found in
+    let w = c.read.ensures ∙ ap (λ (p : ℕ). get_or (g.M.Memory.words c.args.self.now.space.memory) p 0) q.gives ∙ f.owner.field_word_is i f.inside ∙ raw_word (reference c.args.self.now.bounds.limit gr s) (cell_in gr o i) f.sort_found in
     tells-done _ (RawLoad o i) _ gr s st (pos c.read.result) (ap (λ (k : ℕ). tells (pos k)) (sym w))
     (passed c.in_ok-check_handle.ensures (all_pass q))

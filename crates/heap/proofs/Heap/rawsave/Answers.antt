@@ -28,7 +28,7 @@ returns g c =
     let words = g.M.Memory.words now.space.memory in
     let written : g.M.Memory.words c.write.new.self ≡ set words (get_or now.space.handles o 0 / 4 + (2 + i)) c.args.raw =
     c.write.ensures ∙ ap (λ (p : ℕ). set words p c.args.raw) c.in_ok-place.ensures.place in
-    ends _ _ (RawSave o i c.args.raw) _ _ _ refl refl (ap (λ (ws : List ℕ). parts ws now.space.handles now.low now.high now.limit) written) λ gr s st.
+    ends _ _ (RawSave o i c.args.raw) _ _ _ refl refl (ap (λ (ws : List ℕ). parts ws now.space.handles now.bounds.low now.bounds.high now.bounds.limit) written) λ gr s st.
     let is = held-means _ _ gr s st o c.in_ok-check_handle.ensures.gives in
     let q = c.in_ok-place.ensures.sifts gr s (held gr o) st is in
     let f = found _ _ gr s st (held gr o) _ i 1 2 true is (all_pass q) in

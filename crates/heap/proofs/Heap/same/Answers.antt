@@ -26,6 +26,6 @@ returns g c =
     ends _ _ (Same c.args.first c.args.second) _ _ _ refl refl refl λ gr s st.
     let a = held-means _ _ gr s st c.args.first c.in_ok-check_handle.ensures.gives in
     let b = held-means _ _ gr s st c.args.second c.in_ok-check_handle-2.ensures.gives in
-    let e = words-tell c.args.self.now.limit gr s (held gr c.args.first) (held gr c.args.second) st.rests.sound.fits st.rests.sound.as_long a.fitting b.fitting
+    let e = words-tell c.args.self.now.bounds.limit gr s (held gr c.args.first) (held gr c.args.second) st.rests.sound.fits st.rests.sound.as_long a.fitting b.fitting
     ∙ ap₂ eqb (sym a.word_is) (sym b.word_is) in
     tells-done _ (Same c.args.first c.args.second) _ gr s st _ (ap (λ t. tells (pos (cond t 1 0))) e) (passed c.in_ok-check_handle.ensures (all_pass c.in_ok-check_handle-2.ensures))

@@ -34,7 +34,7 @@ returns g c =
     let words = g.M.Memory.words now.space.memory in
     let written : g.M.Memory.words c.write.new.self ≡ set words (get_or now.space.handles o 0 / 4 + (2 + i)) (get_or c.args.self.now.space.handles n 0) =
     c.write.ensures ∙ ap (λ (p : ℕ). set words p (get_or c.args.self.now.space.handles n 0)) c.in_ok-place.ensures.place in
-    ends _ _ (Save o i n) _ _ _ refl refl (ap (λ (ws : List ℕ). parts ws now.space.handles now.low now.high now.limit) written) λ gr s st.
+    ends _ _ (Save o i n) _ _ _ refl refl (ap (λ (ws : List ℕ). parts ws now.space.handles now.bounds.low now.bounds.high now.bounds.limit) written) λ gr s st.
     let is = held-means _ _ gr s st o c.in_ok-check_handle.ensures.gives in
     let q = c.in_ok-place.ensures.sifts gr s (held gr o) st is in
     let f = found _ _ gr s st (held gr o) _ i 1 2 false is (all_pass q) in

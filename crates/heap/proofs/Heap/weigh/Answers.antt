@@ -1,5 +1,5 @@
 use Rattle.std.proofs.Common.{◌∙◌}
-use Rattle.heap.proofs.Stepping.{tells-by}
+use Rattle.heap.proofs.Stepping.{tells-by, bounds_same}
 use Rattle.heap.proofs.Heap.weigh.Goals as goal
 
 pub returns : goal.returns
@@ -8,7 +8,6 @@ returns g c =
     let gives = c.unmark.ensures in
     record {
       tells = tells-by g.S.Scheme.meaning _ _ _ _ _ _ begins.begins begins.scheme gives.rests;
-      low = gives.rests.low ∙ begins.begins.low;
-      high = gives.rests.high ∙ begins.begins.high;
+      bounds = bounds_same (gives.rests.low ∙ begins.begins.low) (gives.rests.high ∙ begins.begins.high) (gives.rests.limit ∙ begins.begins.limit);
       scheme = gives.scheme ∙ begins.scheme;
     }
