@@ -1,5 +1,5 @@
 // Headers: 1 + 2×mark + 4×kind + 16×size.
-ghost use Rattle.std.specs.Prelude.{◌≡◌, ℕ, ◌+◌, ◌-◌, ◌*◌, ◌/◌, ◌%◌, ◌<◌, ◌≤◌, Bool, false, if◌then◌else◌, ◌==◌, nat_eq};
+ghost use Rattle.std.specs.Prelude.{◌≡◌, ℕ, ◌+◌, ◌-◌, ◌*◌, ◌/◌, ◌%◌, ◌<◌, ◌≤◌, Bool, false, if◌then◌else◌, ◌==◌, nat_eq, MatchOption};
 ghost use Rattle.graph.specs.Words.{header};
 ghost use Rattle.codec.specs.Kinds.{shape_number};
 
@@ -39,11 +39,16 @@ pub fn size_in(header: u32) -> u32
     header / 16
 }
 
-/// The number of the object's kind.
-pub fn kind_in(header: u32) -> u32
-    ensures { result ≡ header / 4 % 4 }
+/// The object's kind. The fourth number is no kind's, and no header of a heap at rest has it.
+pub fn shape_in(header: u32) -> Option<Shape>
+    ensures { MatchOption result (header / 4 % 4 ≡ 3) (λ s. shape_number s ≡ header / 4 % 4) }
 {
-    header / 4 % 4
+    match header / 4 % 4 {
+        0 => Some(Shape::Record),
+        1 => Some(Shape::Layout),
+        2 => Some(Shape::Map),
+        _ => None,
+    }
 }
 
 /// Whether the word is the header of a marked object.

@@ -124,7 +124,7 @@ mod tests {
         assert_eq!(rt; header::marked(81), 83);
         assert_eq!(rt; header::unmarked(83), 81);
         assert_eq!(rt; header::size_in(83), 5);
-        assert_eq!(rt; header::kind_in(89), 2);
+        assert_eq!(rt; header::shape_in(89).map(Shape::number), Some(2));
         assert!(rt; header::is_marked(83) && header::is_unmarked(81));
         assert_eq!(rt; value::to_record(5), 22);
         assert_eq!(rt; value::to_class(55), 223);

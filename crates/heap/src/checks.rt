@@ -9,6 +9,7 @@ ghost use Rattle.heap.specs.Views.{view, Stands, Means};
 ghost use Rattle.heap.specs.Checks.{Sifts, map_of, is_kind, is_parent, is_object, has_field, is_sort};
 
 use crate::Heap;
+use codec::header::Shape;
 use codec::{header, value};
 use graph::{Kind, Refusal};
 use memory::Memory;
@@ -47,26 +48,16 @@ pub(crate) fn check_fields(fields: u32, at: u8) -> Result<(), Refusal>
     }
 }
 
-/// A part's number is at most 3.
-pub(crate) fn check_part(part: u32, at: u8) -> Result<(), Refusal>
-    ensures { Sifts (part_number part at ∷ []) (λ _. part ≤ 3) result }
-{
-    if part > 3 {
-        Err(Refusal::NoPart(at))
-    } else {
-        Ok(())
-    }
-}
-
-/// The kind that has the part, and the word of it that holds the part.
-pub(crate) fn part_at(part: u32) -> (Kind, usize)
-    ensures { (kind_number result.0 ≡ part_kind part) × (result.1 ≡ part_offset part) }
+/// A part's number is at most 3; then the kind that has the part, and the word of it that holds the part.
+pub(crate) fn part_at(part: u32, at: u8) -> Result<(Kind, usize), Refusal>
+    ensures { Sifts (part_number part at ∷ []) (λ p. (part ≤ 3) × (kind_number p.0 ≡ part_kind part) × (p.1 ≡ part_offset part)) result }
 {
     match part {
-        0 => (Kind::Record, 1),
-        1 => (Kind::Layout, 2),
-        2 => (Kind::Map, 2),
-        _ => (Kind::Map, 3),
+        0 => Ok((Kind::Record, 1)),
+        1 => Ok((Kind::Layout, 2)),
+        2 => Ok((Kind::Map, 2)),
+        3 => Ok((Kind::Map, 3)),
+        _ => Err(Refusal::NoPart(at)),
     }
 }
 
@@ -75,19 +66,17 @@ impl<M: Memory, S: Scheme> Heap<M, S> {
     pub(crate) fn kind_of(&self, word: u32) -> Kind
         ensures { (g : Graph) (s : List Bool) (v : Value) → Stands (S.Scheme.meaning self.now.scheme) (view M.Memory.words self.now) g s → Means self.now.bounds.limit g s word v → kind_number result ≡ kind_of g v }
     {
-        let tag = word % 4;
-        if tag == 0 {
-            Kind::Empty
-        } else if tag == 1 {
-            Kind::Number
-        } else if tag == 2 {
-            Kind::Record
-        } else {
-            let class = self.space.memory.read(value::place_of(word) as usize);
-            if header::kind_in(class) == 1 {
-                Kind::Layout
-            } else {
-                Kind::Map
+        match word % 4 {
+            0 => Kind::Empty,
+            1 => Kind::Number,
+            2 => Kind::Record,
+            _ => {
+                let class = self.space.memory.read(value::place_of(word) as usize);
+                if header::shape_in(class) == Some(Shape::Layout) {
+                    Kind::Layout
+                } else {
+                    Kind::Map
+                }
             }
         }
     }

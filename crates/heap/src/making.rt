@@ -2,15 +2,16 @@
 ghost use Rattle.std.specs.Prelude.{◌≡◌, ℕ, ◌+◌, ◌-◌, ◌*◌, ◌<◌, ◌≤◌, length, ℤ, pos};
 ghost use Rattle.graph.specs.declared.Call.TheVariants.{Map, Layout, Record};
 ghost use Rattle.graph.specs.Words.{put};
+ghost use Rattle.space.specs.Ends.{innermost, taken, tag_by};
 ghost use Rattle.heap.specs.Views.{view, Meets, Packs, Rooms, outcome_of, nothing};
 
 use crate::Heap;
 use crate::checks::{check_fields, check_handle};
 use codec::header::{Shape, header_of};
-use codec::value;
 use graph::{Kind, Refusal};
 use memory::Memory;
 use scheme::Scheme;
+use space::{Classes, Records, Side};
 
 /// How many words a map takes, and a layout.
 const MAP_WORDS: u32 = 5;
@@ -57,38 +58,18 @@ impl<M: Memory, S: Scheme> Heap<M, S> {
         }
     }
 
-    /// Puts a new class innermost on its side, and gives the reference to it.
-    fn put_class(&mut self, size: u32, words: &[u32]) -> u32
+    /// Puts a new object of these words innermost on its side, and gives the reference to it.
+    fn put_innermost<T: Side>(&mut self, words: &[u32]) -> u32
         requires { length words.now ≤ 34 }
-        ensures memory { M.Memory.words self.new.space.memory ≡ put (M.Memory.words self.old.space.memory) (self.old.bounds.high - size) words.now }
+        ensures memory { M.Memory.words self.new.space.memory ≡ put (M.Memory.words self.old.space.memory) (innermost T.Side.upward self.old.bounds (length words.now)) words.now }
         ensures handles { self.new.space.handles ≡ self.old.space.handles }
-        ensures low { self.new.bounds.low ≡ self.old.bounds.low }
-        ensures high { self.new.bounds.high ≡ self.old.bounds.high - size }
-        ensures limit { self.new.bounds.limit ≡ self.old.bounds.limit }
+        ensures bounds { self.new.bounds ≡ taken T.Side.upward self.old.bounds (length words.now) }
         ensures scheme { self.new.scheme ≡ self.old.scheme }
-        ensures reference { self.old.bounds.high - size < 16384 → result ≡ (self.old.bounds.high - size) * 4 + 3 }
+        ensures reference { innermost T.Side.upward self.old.bounds (length words.now) < 16384 → result ≡ innermost T.Side.upward self.old.bounds (length words.now) * 4 + tag_by T.Side.upward }
     {
-        let place = self.bounds.high.saturating_sub(size);
+        let place = T::take(&mut self.bounds, words.len() as u32);
         self.put(place, words);
-        self.bounds.high = place;
-        value::to_class(place)
-    }
-
-    /// Puts a new record innermost on its side, and gives the reference to it.
-    fn put_record(&mut self, size: u32, words: &[u32]) -> u32
-        requires { length words.now ≤ 34 }
-        ensures memory { M.Memory.words self.new.space.memory ≡ put (M.Memory.words self.old.space.memory) self.old.bounds.low words.now }
-        ensures handles { self.new.space.handles ≡ self.old.space.handles }
-        ensures low { self.old.bounds.low < 16384 → size ≤ 34 → self.new.bounds.low ≡ self.old.bounds.low + size }
-        ensures high { self.new.bounds.high ≡ self.old.bounds.high }
-        ensures limit { self.new.bounds.limit ≡ self.old.bounds.limit }
-        ensures scheme { self.new.scheme ≡ self.old.scheme }
-        ensures reference { self.old.bounds.low < 16384 → result ≡ self.old.bounds.low * 4 + 2 }
-    {
-        let place = self.bounds.low;
-        self.put(place, words);
-        self.bounds.low = place.saturating_add(size);
-        value::to_record(place)
+        T::reference(place)
     }
 
     /// The target gets a new map, with the values of two handles as its name and parent.
@@ -108,7 +89,7 @@ impl<M: Memory, S: Scheme> Heap<M, S> {
             self.space.handles[parent as usize],
             MAP_WORDS,
         ];
-        let word = self.put_class(MAP_WORDS, &words);
+        let word = self.put_innermost::<Classes>(&words);
         self.space.handles[target as usize] = word;
         Ok(())
     }
@@ -128,7 +109,7 @@ impl<M: Memory, S: Scheme> Heap<M, S> {
             self.space.handles[map as usize],
             LAYOUT_WORDS,
         ];
-        let word = self.put_class(LAYOUT_WORDS, &words);
+        let word = self.put_innermost::<Classes>(&words);
         self.space.handles[target as usize] = word;
         Ok(())
     }
@@ -144,7 +125,7 @@ impl<M: Memory, S: Scheme> Heap<M, S> {
         let mut words = [0; MOST_WORDS];
         words[0] = header_of(Shape::Record, size);
         words[1] = self.space.handles[layout as usize];
-        let word = self.put_record(size, &words[..size as usize]);
+        let word = self.put_innermost::<Records>(&words[..size as usize]);
         self.space.handles[target as usize] = word;
         Ok(())
     }

@@ -4,7 +4,7 @@ ghost use Rattle.graph.specs.declared.Call.TheVariants.{Part, Figure, Raws};
 ghost use Rattle.heap.specs.Views.{view, Meets, outcome_of, nothing};
 
 use crate::Heap;
-use crate::checks::{check_handle, check_part, part_at};
+use crate::checks::{check_handle, part_at};
 use graph::{Kind, Refusal};
 use memory::Memory;
 use scheme::Scheme;
@@ -16,8 +16,7 @@ impl<M: Memory, S: Scheme> Heap<M, S> {
     {
         check_handle(target, 1)?;
         check_handle(owner, 2)?;
-        check_part(part, 3)?;
-        let (kind, offset) = part_at(part);
+        let (kind, offset) = part_at(part, 3)?;
         let word = self.space.handles[owner as usize];
         self.check_kind(word, kind, 2)?;
         self.space.handles[target as usize] = self.space.memory.read(word as usize / 4 + offset);

@@ -25,9 +25,5 @@ impl<M: Memory, S: Scheme> Heap<M, S> {
 fn word_at(words: &[u32], place: u32) -> u32
     ensures { result ≡ slice_index words.now place }
 {
-    if (place as usize) < words.len() {
-        words[place as usize]
-    } else {
-        0
-    }
+    words.get(place as usize).copied().unwrap_or(0)
 }

@@ -22,7 +22,7 @@ use Rattle.graph.proofs.Places.{rest_at, one-turn, below-many, turn-bounds}
 use Rattle.graph.proofs.Slots.{names-refer, names-word, refers_to}
 use Rattle.space.proofs.Plans.{slot-of, head-of, slot_at, rank-at, word_at, handle-at, head-word, owner-place, ends, high-reference, kind-four}
 use Rattle.marking.specs.declared.Pending.{Pending}
-use Rattle.marking.specs.Marks.{Marked, marked, Reaches, by_handle as from-handle, by_object as from-object, live, Rooted, Settled, Done}
+use Rattle.marking.specs.Marks.{count, Marked, marked, Reaches, by_handle as from-handle, by_object as from-object, live, Rooted, Settled, Done}
 use Rattle.marking.specs.Unmarks.{Fading, UnmarkedSide}
 use Rattle.marking.specs.Begins.{Begins, GivesUp}
 use Rattle.graph.proofs.Totals.{total-put, total-none}
@@ -208,7 +208,7 @@ module _ (m : Meaning) (W : ℕ) (g : Graph) (s : List Bool) (snd : Sound m W g 
 pub rest-words : (m : Meaning) (W : ℕ) (g : Graph) (s : List Bool) (ws hs : List ℕ) → Rests m W g s ws hs → ws ≡ image W g s [] ++ drop W ws
 rest-words m W g s ws hs r = sym (take-append-drop W ws) ∙ ap (λ (x : List ℕ). x ++ drop W ws) r.memory
 
-pub begins : (m : Meaning) (W low high : ℕ) (ws hs us is vs gs : List ℕ) (q r t : Pending) → q.count ≡ 0 → q.overflow ≡ false → q.live ≡ 0 →
+pub begins : (m : Meaning) (W low high : ℕ) (ws hs us is vs gs : List ℕ) (q r t : Pending) → count q ≡ 0 → q.overflow ≡ false → q.live ≡ 0 →
     Kept ws hs us is → Rooted ws hs q us is r → Kept us is vs gs → Settled m W low high us is r vs gs t → Begins m W low high ws hs vs gs t.live
 begins m W low high ws hs us is vs gs q r t none room bare k1 roots k2 settled g s lim rests el eh =
     let snd = rests.sound in

@@ -7,7 +7,7 @@ use Rattle.graph.specs.Places.{refers}
 use Rattle.space.specs.Pass.{Plan}
 use Rattle.marking.specs.declared.Pending.{Pending}
 use Rattle.space.specs.Standing.{Standing}
-use Rattle.marking.specs.Marks.{Marked, marked, Reaches, by_handle, by_object, unmarked, stage, Going, nothing, after, MarkedAt, Done}
+use Rattle.marking.specs.Marks.{Marked, marked, Reaches, by_handle, by_object, unmarked, stage, count, Going, nothing, after, MarkedAt, Done}
 use Rattle.space.proofs.Stores.{view-handle}
 use Rattle.space.proofs.Walk.{inside-below}
 use Rattle.graph.proofs.Totals.{total-none}
@@ -15,7 +15,7 @@ use Rattle.marking.proofs.Steps.{plain, head-of, turn-todo, few-unmarked}
 
 module _ (m : Meaning) (P : Plan) (limit : ℕ) (so : Standing m P limit) where
   -- nothing is marked yet
-  pub start : (look : ℕ → ℕ) (q : Pending) → Marked P look → ((a : ℕ) → marked P look a ≡ false) → q.count ≡ 0 → q.overflow ≡ false → q.live ≡ 0 → Going P limit (stage 0 nothing 16384 16384) look q
+  pub start : (look : ℕ → ℕ) (q : Pending) → Marked P look → ((a : ℕ) → marked P look a ≡ false) → count q ≡ 0 → q.overflow ≡ false → q.live ≡ 0 → Going P limit (stage 0 nothing 16384 16384) look q
   start look q is fresh none room words =
       record {
         is = is;
@@ -53,32 +53,32 @@ module _ (m : Meaning) (P : Plan) (limit : ℕ) (so : Standing m P limit) where
     slot_is : P.slot (16384 + h) ≡ refers (P.words (16384 + h))
     slot_is = (so.handles.region h (omega arith) l).2
 
-    pub root-mark : (ws hs vs gs : List ℕ) (q r : Pending) (w : ℕ) → P.n ≡ length ws → w ≡ P.words (16384 + h) → 2 ≤ w % 4 → MarkedAt ws hs q (w / 4) vs gs r →
+    pub root-mark : (ws hs vs gs : List ℕ) (q r : Pending) (w : ℕ) → P.n ≡ length ws → w ≡ P.words (16384 + h) → refers w ≡ true → (t : ℕ) → t ≡ w / 4 → MarkedAt ws hs q t vs gs r →
         Going P limit (stage h todo turns rounds) (view ws hs) q → Going P limit (stage (h + 1) todo turns rounds) (view vs gs) r
-    root-mark ws hs vs gs q r w e f two mark go =
-        let to = ap (λ (x : ℕ). x / 4) f in
-        let sl : P.slot (16384 + h) ≡ true = slot_is ∙ le-leb 2 _ (subst (λ (x : ℕ). 2 ≤ x % 4) f two) in
+    root-mark ws hs vs gs q r w e f refer t et mark go =
+        let to = et ∙ ap (λ (x : ℕ). x / 4) f in
+        let sl : P.slot (16384 + h) ≡ true = slot_is ∙ subst (λ (x : ℕ). refers x ≡ true) f refer in
         let got =
         mark m P limit (stage h todo turns rounds) so e (subst (λ (x : ℕ). P.head x ≡ true) (sym to) (so.planned.slots (16384 + h) sl).target)
         (by_handle (16384 + h) sl (so.handles.region h (omega arith) l).0 to) go in
         root-more (view vs gs) r (λ _. subst (λ (x : ℕ). marked P (view vs gs) x ≡ true) to got.1) got.0
 
-    pub root-skip : (look : ℕ → ℕ) (q : Pending) (w : ℕ) → w ≡ P.words (16384 + h) → w % 4 < 2 → Going P limit (stage h todo turns rounds) look q → Going P limit (stage (h + 1) todo turns rounds) look q
-    root-skip look q w f two go =
-        root-more look q (λ sl. absurd (both_ways (P.slot (16384 + h)) (slot_is ∙ lt-leb 2 _ (subst (λ (x : ℕ). x % 4 < 2) f two)) sl)) go
+    pub root-skip : (look : ℕ → ℕ) (q : Pending) (w : ℕ) → w ≡ P.words (16384 + h) → refers w ≡ false → Going P limit (stage h todo turns rounds) look q → Going P limit (stage (h + 1) todo turns rounds) look q
+    root-skip look q w f plain go =
+        root-more look q (λ sl. absurd (both_ways (P.slot (16384 + h)) (slot_is ∙ subst (λ (x : ℕ). refers x ≡ false) f plain) sl)) go
 
   -- another round: all objects are to do
-  pub restart : (roots rounds fewer n : ℕ) → n ≡ 0 → (look : ℕ → ℕ) (q r : Pending) → rounds ≤ fewer + 1 → q.overflow ≡ true → q.count ≡ 0 → r.count ≡ q.count → r.overflow ≡ false → r.live ≡ q.live →
+  pub restart : (roots rounds fewer n : ℕ) → n ≡ 0 → (look : ℕ → ℕ) (q r : Pending) → rounds ≤ fewer + 1 → q.overflow ≡ true → count q ≡ 0 → count r ≡ count q → r.overflow ≡ false → r.live ≡ q.live →
       Going P limit (stage roots nothing 16384 rounds) look q → Going P limit (stage roots (after P n) 16384 fewer) look r
-  restart roots rounds fewer n first look q r more full none count overflow lv go =
+  restart roots rounds fewer n first look q r more full none same overflow lv go =
       record {
         is = go.is;
         sound = go.sound;
         rooted = go.rooted;
-        pends = λ k l. absurd (omega (arith, count, none, l));
+        pends = λ k l. absurd (omega (arith, same, none, l));
         closed = λ _ p x e sl rk z. absurd (both_ways (ltb n (P.rank x)) z (lt-ltb n (P.rank x) (omega (arith, first, rk, (so.planned.counted p (head-of m P limit so look p e)).0))));
         lives = lv ∙ go.lives;
-        turned = omega (arith, count, go.turned);
+        turned = omega (arith, same, go.turned);
         rounded =
             let a : unmarked P limit look + 1 ≤ rounds = subst (λ (b : Bool). unmarked P limit look + cond b 1 0 ≤ rounds) full go.rounded in
             subst (λ (b : Bool). unmarked P limit look + cond b 1 0 ≤ fewer) (sym overflow) (omega (arith, a));
@@ -100,7 +100,7 @@ module _ (m : Meaning) (P : Plan) (limit : ℕ) (so : Standing m P limit) where
       w true n r e l = absurd (omega arith)
       w false n r e l = refl
 
-  pub finish : (rounds : ℕ) (look : ℕ → ℕ) (q : Pending) → q.count ≡ 0 → q.overflow ≡ false → Going P limit (stage 32 nothing 16384 rounds) look q → Done P limit look q.live
+  pub finish : (rounds : ℕ) (look : ℕ → ℕ) (q : Pending) → count q ≡ 0 → q.overflow ≡ false → Going P limit (stage 32 nothing 16384 rounds) look q → Done P limit look q.live
   finish rounds look q none room go = record { is = go.is; only = go.sound; every = every; lives = go.lives }
     where
       every : (a : ℕ) → Reaches P a → marked P look a ≡ true

@@ -1,7 +1,7 @@
 // Marking: exactly the reachable objects, with at most 64 pending places outside the memory.
 #![tactic(auto)]
 
-ghost use Rattle.std.specs.Prelude.{◌≡◌, ◌≤◌, length};
+use arrayvec::ArrayVec;
 
 mod mark;
 mod unmark;
@@ -13,10 +13,7 @@ pub use unmark::give_up;
 /// `live` is the words of the objects marked so far.
 #[derive(Drop)]
 struct Pending {
-    places: [u32; 64],
-    count: u32,
+    places: ArrayVec<u32, 64>,
     overflow: bool,
     live: u32,
-    ghost full: { length places ≡ 64 },
-    ghost fits: { count ≤ 64 },
 }

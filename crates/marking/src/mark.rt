@@ -5,9 +5,12 @@ ghost use Rattle.marking.specs.Begins.{Begins};
 ghost use Rattle.marking.specs.Marks.{MarkedAt, Scanned, Drained, Rescanned, Rooted, Settled};
 
 use crate::Pending;
+use arrayvec::ArrayVec;
+use codec::header::{is_marked, is_unmarked, size_in};
+use codec::value::{place_of, refers};
 use memory::Memory;
 use scheme::Scheme;
-use space::{Bounds, Classes, Records, Side, Space, WORDS, is_value};
+use space::{Bounds, Classes, Records, Side, Space, WORDS};
 
 impl Pending {
     // Marks the object at a place, and keeps the place while there is room.
@@ -16,14 +19,10 @@ impl Pending {
         ensures kept { Kept (M.Memory.words space.old.memory) space.old.handles (M.Memory.words space.new.memory) space.new.handles }
     {
         let header = space.look(place);
-        if header % 4 == 1 {
+        if is_unmarked(header) {
             space.store(place, header + 2);
-            self.live = self.live.wrapping_add(header / 16);
-            let room = self.count < 64;
-            if room {
-                self.places[self.count as usize] = place;
-                self.count += 1;
-            } else {
+            self.live = self.live.wrapping_add(size_in(header));
+            if self.places.try_push(place).is_err() {
                 self.overflow = true;
             }
         }
@@ -38,13 +37,12 @@ impl Pending {
             return;
         }
         let header = space.look(place);
-        let kind = header / 4 % 4;
-        let rule = if kind == 0 { space.rule_of(place) } else { 0 };
-        for i in 1..header / 16 {
-            if is_value(scheme, kind, rule, i) {
+        let slots = space.slots_of(place, header);
+        for i in 1..size_in(header) {
+            if slots.is_value(scheme, i) {
                 let word = space.look(place + i);
-                if word % 4 >= 2 {
-                    self.mark_at(space, word / 4);
+                if refers(word) {
+                    self.mark_at(space, place_of(word));
                 }
             }
         }
@@ -56,11 +54,9 @@ impl Pending {
         ensures kept { Kept (M.Memory.words space.old.memory) space.old.handles (M.Memory.words space.new.memory) space.new.handles }
     {
         for turn in 0..WORDS {
-            if self.count == 0 {
+            let Some(place) = self.places.pop() else {
                 break;
-            }
-            self.count -= 1;
-            let place = self.places[self.count as usize];
+            };
             self.scan(space, scheme, place);
         }
     }
@@ -82,7 +78,7 @@ impl Pending {
                 break;
             };
             let place = T::place(cursor, size);
-            if space.look(place) % 4 == 3 {
+            if is_marked(space.look(place)) {
                 self.scan(space, scheme, place);
                 self.drain(space, scheme);
             }
@@ -97,8 +93,8 @@ impl Pending {
     {
         let table = space.handles;
         for (h, word) in table.iter().enumerate() {
-            if *word % 4 >= 2 {
-                self.mark_at(space, *word / 4);
+            if refers(*word) {
+                self.mark_at(space, place_of(*word));
             }
         }
     }
@@ -134,8 +130,7 @@ pub fn begin<M: Memory, S: Scheme>(
     ensures { Begins (S.Scheme.meaning scheme.now) bounds.limit bounds.low bounds.high (M.Memory.words space.old.memory) space.old.handles (M.Memory.words space.new.memory) space.new.handles result }
 {
     let mut pending = Pending {
-        places: [0; 64],
-        count: 0,
+        places: ArrayVec::new(),
         overflow: false,
         live: 0,
     };

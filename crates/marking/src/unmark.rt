@@ -3,6 +3,7 @@ ghost use Rattle.space.specs.Weave.{Kept};
 ghost use Rattle.marking.specs.Unmarks.{UnmarkedSide};
 ghost use Rattle.marking.specs.Begins.{GivesUp};
 
+use codec::header::is_marked;
 use memory::Memory;
 use space::{Bounds, Classes, Records, Side, Space, WORDS};
 
@@ -18,7 +19,7 @@ fn unmark_side<T: Side, M: Memory>(space: &mut Space<M>, from: u32, end: u32)
         };
         let place = T::place(cursor, size);
         let header = space.look(place);
-        if header % 4 == 3 {
+        if is_marked(header) {
             space.store(place, header - 2);
         }
         cursor = T::next(cursor, size);

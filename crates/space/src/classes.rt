@@ -1,7 +1,8 @@
 // The classes' side.
 ghost use Rattle.std.specs.Prelude.{Bool, false};
 
-use crate::{Side, Space};
+use crate::{Bounds, Side, Space};
+use codec::value::to_class;
 use memory::Memory;
 
 /// Classes: by their boundary tags, from the right.
@@ -24,6 +25,15 @@ impl Side for Classes {
 
     fn gap(cursor: u32, end: u32) -> u32 {
         cursor.saturating_sub(end)
+    }
+
+    fn take(bounds: &mut Bounds, size: u32) -> u32 {
+        bounds.high = bounds.high.saturating_sub(size);
+        bounds.high
+    }
+
+    fn reference(place: u32) -> u32 {
+        to_class(place)
     }
 
     fn order(size: u32, i: u32) -> u32 {

@@ -1,18 +1,12 @@
 // The backward update: records, then classes.
-ghost use Rattle.std.specs.Prelude.{◌≡◌, ◌+◌, ◌-◌, ◌≤◌};
+ghost use Rattle.std.specs.Prelude.{◌≡◌, ◌+◌, ◌≤◌};
 ghost use Rattle.space.specs.Weave.{Kept};
 ghost use Rattle.space.specs.Pass.{Closed, ClosedSide};
 ghost use Rattle.space.specs.Collect.{Closes};
 
 use crate::{Bounds, Classes, Records, Side, Space, WORDS};
+use codec::header::is_marked;
 use memory::Memory;
-
-// The header without its mark.
-fn unmarked(header: u32) -> u32
-    ensures { result ≡ header - 2 }
-{
-    if header < 2 { 0 } else { header - 2 }
-}
 
 impl<M: Memory> Space<M> {
     // A marked object: its list is unthreaded to the new place, then it is moved and unmarked.
@@ -24,7 +18,7 @@ impl<M: Memory> Space<M> {
         self.unthread(place, new_place);
         self.slide::<T>(place, new_place, size);
         let header = self.look(new_place);
-        self.store(new_place, unmarked(header));
+        self.store(new_place, header.saturating_sub(2));
     }
 
     // Goes over a side, and answers where it now ends.
@@ -44,7 +38,7 @@ impl<M: Memory> Space<M> {
                 break;
             }
             let header = self.header_of(place);
-            if header % 4 == 3 {
+            if is_marked(header) {
                 self.close_object::<T>(place, new_place, size);
                 to = T::next(to, size);
             }

@@ -1,23 +1,25 @@
 // The forward update: handles, then records, then classes.
-ghost use Rattle.std.specs.Prelude.{◌≡◌, ◌+◌, ◌≤◌};
+ghost use Rattle.std.specs.Prelude.{◌≡◌, ◌+◌, ◌/◌, ◌%◌, ◌≤◌};
 ghost use Rattle.space.specs.Weave.{Kept};
 ghost use Rattle.space.specs.Pass.{ThreadedWords, ThreadedHandles, Visited, DrawnSide};
+ghost use Rattle.space.specs.Slots.{values_of};
 ghost use Rattle.space.specs.Collect.{DrawsRecords, DrawsClasses, Draws};
 
-use crate::slot::is_value;
-use crate::{Bounds, Classes, Records, Side, Space, WORDS};
+use crate::{Bounds, Classes, Records, Side, Slots, Space, WORDS};
+use codec::header::is_marked;
+use codec::value::refers;
 use memory::Memory;
 use scheme::Scheme;
 
 impl<M: Memory> Space<M> {
     // Threads each reference of the object at the place, lowest first.
-    fn thread_words<S: Scheme>(&mut self, scheme: &S, place: u32, size: u32, kind: u32, rule: u32)
+    fn thread_words<S: Scheme>(&mut self, scheme: &S, place: u32, size: u32, slots: Slots)
         requires { place + size ≤ 16384 }
-        ensures threaded { ThreadedWords (S.Scheme.meaning scheme.now) (M.Memory.words self.old.memory) self.old.handles place size kind rule (M.Memory.words self.new.memory) self.new.handles }
+        ensures threaded { ThreadedWords (values_of (S.Scheme.meaning scheme.now) slots) (M.Memory.words self.old.memory) self.old.handles place size (M.Memory.words self.new.memory) self.new.handles }
         ensures kept { Kept (M.Memory.words self.old.memory) self.old.handles (M.Memory.words self.new.memory) self.new.handles }
     {
         for i in 1..size {
-            if is_value(scheme, kind, rule, i) && self.look(place + i) % 4 >= 2 {
+            if slots.is_value(scheme, i) && refers(self.look(place + i)) {
                 self.thread(place + i);
             }
         }
@@ -30,21 +32,21 @@ impl<M: Memory> Space<M> {
     {
         let table = self.handles;
         for (h, word) in table.iter().enumerate() {
-            if *word % 4 >= 2 {
+            if refers(*word) {
                 self.thread(WORDS + h as u32);
             }
         }
     }
 
     // A marked object: its list is unthreaded to the new place, then its references are threaded.
-    fn visit<S: Scheme>(&mut self, scheme: &S, place: u32, new_place: u32, size: u32, kind: u32)
+    fn visit<S: Scheme>(&mut self, scheme: &S, place: u32, new_place: u32, size: u32, header: u32)
         requires { place + size ≤ 16384 }
-        ensures visited { Visited (S.Scheme.meaning scheme.now) (M.Memory.words self.old.memory) self.old.handles place new_place size kind (M.Memory.words self.new.memory) self.new.handles }
+        ensures visited { Visited (S.Scheme.meaning scheme.now) (M.Memory.words self.old.memory) self.old.handles place new_place size (header / 4 % 4) (M.Memory.words self.new.memory) self.new.handles }
         ensures kept { Kept (M.Memory.words self.old.memory) self.old.handles (M.Memory.words self.new.memory) self.new.handles }
     {
         self.unthread(place, new_place);
-        let rule = if kind == 0 { self.rule_of(place) } else { 0 };
-        self.thread_words(scheme, place, size, kind, rule);
+        let slots = self.slots_of(place, header);
+        self.thread_words(scheme, place, size, slots);
     }
 
     // Goes over a side.
@@ -60,8 +62,8 @@ impl<M: Memory> Space<M> {
             };
             let place = T::place(cursor, size);
             let header = self.header_of(place);
-            if header % 4 == 3 {
-                self.visit(scheme, place, T::place(to, size), size, header / 4 % 4);
+            if is_marked(header) {
+                self.visit(scheme, place, T::place(to, size), size, header);
                 to = T::next(to, size);
             }
             cursor = T::next(cursor, size);

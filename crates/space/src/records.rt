@@ -1,7 +1,9 @@
 // The records' side.
 ghost use Rattle.std.specs.Prelude.{Bool, true};
 
-use crate::{Side, Space};
+use crate::{Bounds, Side, Space};
+use codec::header::size_in;
+use codec::value::to_record;
 use memory::Memory;
 
 /// Records: by their headers, from the left.
@@ -11,7 +13,7 @@ impl Side for Records {
     ghost upward = { true };
 
     fn size<M: Memory>(space: &Space<M>, cursor: u32) -> u32 {
-        space.header_of(cursor) / 16
+        size_in(space.header_of(cursor))
     }
 
     fn place(cursor: u32, size: u32) -> u32 {
@@ -24,6 +26,16 @@ impl Side for Records {
 
     fn gap(cursor: u32, end: u32) -> u32 {
         end.saturating_sub(cursor)
+    }
+
+    fn take(bounds: &mut Bounds, size: u32) -> u32 {
+        let place = bounds.low;
+        bounds.low = place.saturating_add(size);
+        place
+    }
+
+    fn reference(place: u32) -> u32 {
+        to_record(place)
     }
 
     fn order(size: u32, i: u32) -> u32 {

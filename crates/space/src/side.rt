@@ -1,8 +1,9 @@
 // The two sides of a heap: records from the left by their headers, classes from the right by their boundary tags.
-ghost use Rattle.std.specs.Prelude.{◌≡◌, ◌+◌, ◌^◌, ◌<◌, Bool};
+ghost use Rattle.std.specs.Prelude.{◌≡◌, ◌+◌, ◌*◌, ◌^◌, ◌<◌, Bool};
+ghost use Rattle.space.specs.Ends.{innermost, taken, tag_by};
 ghost use Rattle.space.specs.Pass.{Sized, place_by, next_by, gap_by, order_by, Came};
 
-use crate::{Space, WORDS};
+use crate::{Bounds, Space, WORDS};
 use memory::Memory;
 
 // A side of the heap: the way in which a cursor goes over its objects.
@@ -24,6 +25,15 @@ pub trait Side {
     // How far it is to the end.
     fn gap(cursor: u32, end: u32) -> u32
         ensures { result ≡ gap_by upward cursor end };
+
+    // The place of a new object of that size, innermost on the side; the bounds then have it within.
+    fn take(bounds: &mut Bounds, size: u32) -> u32
+        ensures place { result ≡ innermost upward bounds.old size }
+        ensures bounds { bounds.new ≡ taken upward bounds.old size };
+
+    // The reference to the object of the side at a place.
+    fn reference(place: u32) -> u32
+        ensures { place < 1073741824 → result ≡ place * 4 + tag_by upward };
 
     // Which of the words of an object is moved as number i, of those below the size.
     fn order(size: u32, i: u32) -> u32

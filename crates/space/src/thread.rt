@@ -2,17 +2,19 @@
 ghost use Rattle.std.specs.Prelude.{◌≡◌, ◌<◌};
 ghost use Rattle.space.specs.Weave.{reference, Heads, Threaded, Unthreaded, Kept};
 
-use crate::{ADDRESSES, Space, WORDS};
+use crate::{ADDRESSES, Space};
+use codec::header::{Shape, shape_in};
+use codec::link::{address_of, ends_list, link_to};
+use codec::value::{place_of, to_class, to_record};
 use memory::Memory;
 
 // The reference to the object with that header, at that place.
 fn reference_to(place: u32, header: u32) -> u32
     ensures { place < 16384 → result ≡ reference place header }
 {
-    if place < WORDS {
-        place * 4 + if header / 4 % 4 == 0 { 2 } else { 3 }
-    } else {
-        0
+    match shape_in(header) {
+        Some(Shape::Record) => to_record(place),
+        _ => to_class(place),
     }
 }
 
@@ -23,10 +25,10 @@ impl<M: Memory> Space<M> {
     {
         let mut word = self.look(place);
         for turn in 0..ADDRESSES {
-            if word % 2 == 1 {
+            if ends_list(word) {
                 break;
             }
-            word = self.look(word / 2);
+            word = self.look(address_of(word));
         }
         word
     }
@@ -37,10 +39,10 @@ impl<M: Memory> Space<M> {
         ensures kept { Kept (M.Memory.words self.old.memory) self.old.handles (M.Memory.words self.new.memory) self.new.handles }
     {
         if slot < ADDRESSES {
-            let place = self.look(slot) / 4;
+            let place = place_of(self.look(slot));
             let header = self.look(place);
             self.store(slot, header);
-            self.store(place, 2 * slot);
+            self.store(place, link_to(slot));
         }
     }
 
@@ -52,10 +54,10 @@ impl<M: Memory> Space<M> {
         let reference = reference_to(new_place, self.header_of(place));
         let mut word = self.look(place);
         for turn in 0..ADDRESSES {
-            if word % 2 == 1 {
+            if ends_list(word) {
                 break;
             }
-            let slot = word / 2;
+            let slot = address_of(word);
             word = self.look(slot);
             self.store(slot, reference);
         }

@@ -1,16 +1,40 @@
-use Rattle.std.proofs.Common.{◌≡◌, ◌/◌, ◌%◌, get_or, ap, ◌∙◌, arith}
+use Rattle.std.proofs.Common.{◌≡◌, ℕ, ◌/◌, ◌%◌, Bool, true, false, Option, Some, None, MatchOption, get_or, sym, refl, ap, ◌∙◌, arith}
+use Rattle.std.specs.Option.{option_eq}
+use Rattle.std.proofs.lemmas.Bool.{true≢false, false≢true}
+use Rattle.codec.specs.Kinds.{shape_number}
+use Rattle.codec.specs.declared.header.Shape.{Shape}
+use Rattle.codec.specs.declared.header.Shape.TheVariants.{Record, Layout, Map}
+use Rattle.codec.specs.contracts.header.ShapePartialEq.TheImpl.{eq-value}
 use Rattle.heap.proofs.Readings.{layout_word, map_word}
 use Rattle.heap.proofs.Heap.kind_of.Goals as goal
 
--- what stands behind a class reference, by its header
-pub returns-then-kind_in-eq1 : goal.returns-then-kind_in-eq1
-returns-then-kind_in-eq1 g c gr s x st is =
-    let three : c.args.word % 4 ≡ 3 = grind arith in
-    let kind = c.kind_in.ensures ∙ ap (λ h. h / 4 % 4) (c.read-class.ensures ∙ ap (λ p. get_or (g.M.Memory.words c.args.self.now.space.memory) p 0) c.place_of.ensures) in
-    layout_word _ _ gr s st c.args.word c.kind_in.result x is three kind c.if-kind_in-eq1.true
+-- a class's kind bits are 1 exactly where its header is a layout's
+abbrev Told : Option Shape → ℕ → Type 0
+Told r n = MatchOption r (n ≡ 3) (λ s. shape_number s ≡ n)
 
-pub returns-else-kind_in-eq1 : goal.returns-else-kind_in-eq1
-returns-else-kind_in-eq1 g c gr s x st is =
+abbrev is_layout : Option Shape → Bool
+is_layout r = option_eq eq-value.it r (Some Layout)
+
+bits-layout : (r : Option Shape) (n : ℕ) → Told r n → true ≡ is_layout r → n ≡ 1
+bits-layout None n t e = absurd (true≢false e)
+bits-layout (Some Record) n t e = absurd (true≢false e)
+bits-layout (Some Layout) n t e = sym t
+bits-layout (Some Map) n t e = absurd (true≢false e)
+
+bits-other : (r : Option Shape) (n : ℕ) → Told r n → false ≡ is_layout r → n ≡ 1 → ⊥
+bits-other None n t e one = omega (arith, t, one)
+bits-other (Some Record) n t e one = omega (arith, t, one)
+bits-other (Some Layout) n t e one = false≢true e
+bits-other (Some Map) n t e one = omega (arith, t, one)
+
+pub returns-then-eq : goal.returns-then-eq
+returns-then-eq g c gr s x st is =
     let three : c.args.word % 4 ≡ 3 = grind arith in
-    let kind = c.kind_in.ensures ∙ ap (λ h. h / 4 % 4) (c.read-class.ensures ∙ ap (λ p. get_or (g.M.Memory.words c.args.self.now.space.memory) p 0) c.place_of.ensures) in
-    map_word _ _ gr s st c.args.word c.kind_in.result x is three kind c.if-kind_in-eq1.false
+    let kind = ap (λ h. h / 4 % 4) (c.read-class.ensures ∙ ap (λ p. get_or (g.M.Memory.words c.args.self.now.space.memory) p 0) c.place_of.ensures) in
+    layout_word _ _ gr s st c.args.word (c.read-class.result / 4 % 4) x is three kind (bits-layout c.shape_in.result _ c.shape_in.ensures c.if-eq.ensures)
+
+pub returns-else-eq : goal.returns-else-eq
+returns-else-eq g c gr s x st is =
+    let three : c.args.word % 4 ≡ 3 = grind arith in
+    let kind = ap (λ h. h / 4 % 4) (c.read-class.ensures ∙ ap (λ p. get_or (g.M.Memory.words c.args.self.now.space.memory) p 0) c.place_of.ensures) in
+    map_word _ _ gr s st c.args.word (c.read-class.result / 4 % 4) x is three kind (bits-other c.shape_in.result _ c.shape_in.ensures c.if-eq.ensures)

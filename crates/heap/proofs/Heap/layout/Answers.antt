@@ -4,6 +4,7 @@ use Rattle.graph.specs.declared.Call.TheVariants.{Layout}
 use Rattle.graph.specs.Graph.{held, a_layout}
 use Rattle.graph.specs.Step.{position_of, kind_of}
 use Rattle.graph.specs.Words.{put as putWords}
+use Rattle.space.specs.declared.Bounds.{Bounds}
 use Rattle.heap.specs.Views.{view, nothing}
 use Rattle.heap.proofs.Judging.{passed, all_pass, pass-first, next, stop}
 use Rattle.heap.proofs.Readings.{held-means}
@@ -40,18 +41,18 @@ returns-in_err-make_room g c =
 pub returns : goal.returns
 returns g c =
     let room = c.in_ok-make_room.ensures.rooms in
-    let put = c.put_class-word.ensures in
+    let put = c.put_innermost-word.ensures in
     let h₁ = c.make_room.new.self in
     let v₁ = view {S = g.row.S.Denot} g.M.Memory.words h₁ in
     let placed : ClassPut v₁ _ c.args.target 4 (69 ∷ c.args.fields ∷ get_or v₁.handles c.args.map 0 ∷ 4 ∷ []) =
     record {
       memory = put.memory ∙ ap (λ (k : ℕ). putWords v₁.words (v₁.high - 4) (k ∷ c.args.fields ∷ get_or v₁.handles c.args.map 0 ∷ 4 ∷ [])) (c.header_of.ensures (omega arith));
       handles = λ l. ap₂ (λ (hs : List ℕ) (w : ℕ). set hs c.args.target w) put.handles (put.reference l);
-      low = put.low;
-      high = put.high;
-      limit = put.limit;
+      low = ap (λ (b : Bounds). b.low) put.bounds;
+      high = ap (λ (b : Bounds). b.high) put.bounds;
+      limit = ap (λ (b : Bounds). b.limit) put.bounds;
     } in
-    ends _ _ (Layout c.args.target c.args.fields c.args.map) _ _ _ (put.limit ∙ room.limit) (put.scheme ∙ c.in_ok-make_room.ensures.scheme)
+    ends _ _ (Layout c.args.target c.args.fields c.args.map) _ _ _ (placed.limit ∙ room.limit) (put.scheme ∙ c.in_ok-make_room.ensures.scheme)
     (λ l small. class-alters _ v₁ _ c.args.target 4 (λ u. 69 ∷ c.args.fields ∷ get_or u.handles c.args.map 0 ∷ 4 ∷ []) placed (room.roomy l) (omega arith) l small) λ gr s st.
     layout-done _ _ gr s st _ _ room.limit (room.later gr s st) c.args.target c.args.fields c.args.map c.in_ok-check_handle-2.ensures.gives
     (eqb-true (kind_of gr (held gr c.args.map)) 4 (not-false _ (pass-first (all_pass (c.in_ok-check_kind.ensures gr s (held gr c.args.map) st (held-means _ _ gr s st c.args.map c.in_ok-check_handle-2.ensures.gives))))))

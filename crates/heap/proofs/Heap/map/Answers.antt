@@ -2,6 +2,7 @@ use Rattle.std.proofs.Common.{ℕ, ◌-◌, List, [], ◌∷◌, get_or, set, re
 use Rattle.graph.specs.declared.Call.TheVariants.{Map}
 use Rattle.graph.specs.Graph.{held, a_map}
 use Rattle.graph.specs.Words.{put as putWords}
+use Rattle.space.specs.declared.Bounds.{Bounds}
 use Rattle.heap.specs.Views.{view, nothing}
 use Rattle.heap.proofs.Judging.{passed, all_pass, next, stop}
 use Rattle.heap.proofs.Readings.{held-means}
@@ -43,18 +44,18 @@ returns-in_err-make_room g c =
 pub returns : goal.returns
 returns g c =
     let room = c.in_ok-make_room.ensures.rooms in
-    let put = c.put_class-word.ensures in
+    let put = c.put_innermost-word.ensures in
     let h₁ = c.make_room.new.self in
     let v₁ = view {S = g.row.S.Denot} g.M.Memory.words h₁ in
     let placed : ClassPut v₁ _ c.args.target 5 (89 ∷ c.args.rule ∷ get_or v₁.handles c.args.name 0 ∷ get_or v₁.handles c.args.parent 0 ∷ 5 ∷ []) =
     record {
       memory = put.memory ∙ ap (λ (k : ℕ). putWords v₁.words (v₁.high - 5) (k ∷ c.args.rule ∷ get_or v₁.handles c.args.name 0 ∷ get_or v₁.handles c.args.parent 0 ∷ 5 ∷ [])) (c.header_of.ensures (omega arith));
       handles = λ l. ap₂ (λ (hs : List ℕ) (w : ℕ). set hs c.args.target w) put.handles (put.reference l);
-      low = put.low;
-      high = put.high;
-      limit = put.limit;
+      low = ap (λ (b : Bounds). b.low) put.bounds;
+      high = ap (λ (b : Bounds). b.high) put.bounds;
+      limit = ap (λ (b : Bounds). b.limit) put.bounds;
     } in
-    ends _ _ (Map c.args.target c.args.rule c.args.name c.args.parent) _ _ _ (put.limit ∙ room.limit) (put.scheme ∙ c.in_ok-make_room.ensures.scheme)
+    ends _ _ (Map c.args.target c.args.rule c.args.name c.args.parent) _ _ _ (placed.limit ∙ room.limit) (put.scheme ∙ c.in_ok-make_room.ensures.scheme)
     (λ l small. class-alters _ v₁ _ c.args.target 5 (λ u. 89 ∷ c.args.rule ∷ get_or u.handles c.args.name 0 ∷ get_or u.handles c.args.parent 0 ∷ 5 ∷ []) placed (room.roomy l) (omega arith) l small) λ gr s st.
     map-done _ _ gr s st _ _ room.limit (room.later gr s st) c.args.target c.args.rule c.args.name c.args.parent c.in_ok-check_handle-2.ensures.gives c.in_ok-check_handle-3.ensures.gives
     (passed c.in_ok-check_handle.ensures (passed c.in_ok-check_rule.ensures (passed c.in_ok-check_handle-2.ensures (passed c.in_ok-check_handle-3.ensures (all_pass (c.in_ok-check_parent.ensures gr s (held gr c.args.parent) st (held-means _ _ gr s st c.args.parent c.in_ok-check_handle-3.ensures.gives)))))))

@@ -1,8 +1,9 @@
 use Rattle.std.proofs.Common.{ℕ, ◌%◌, sym, ap, ◌∙◌, inl, inr}
+use Rattle.std.proofs.lemmas.Bool.{eqb-true, eqb-false}
 use Rattle.space.proofs.Wovens.{kept_refl, kept_then}
 use Rattle.marking.proofs.Walks.{walk-stop, size-read, place-small, walk_start, walk-scan, walk-skip, walk_end}
 use Rattle.marking.proofs.Pending.rescan.Goals as goal
-use Rattle.marking.proofs.Pending.rescan.Goals.{then-look-eq3, else-look-eq3}
+use Rattle.marking.proofs.Pending.rescan.Goals.{then-is_marked, else-is_marked}
 
 pub loop-turn-init : goal.loop-turn-init
 loop-turn-init g c = (kept_refl _ _, λ P limit so C all roots rounds e f w. w)
@@ -13,8 +14,8 @@ loop-turn-preserved g c =
     let up = g.T.Side.upward in
     let ws = g.M.Memory.words c.loop-turn.space.memory in
     let hs = c.loop-turn.space.handles in
-    elim c.if-look-eq3.branch [
-      | then-look-eq3 w ↦
+    elim c.if-is_marked.branch [
+      | then-is_marked w ↦
           rw (w.self-is, w.space-is) (
             kept_then inv.0 (kept_then w.scan.ensures.kept w.drain.ensures.kept),
             λ P limit so C all roots rounds e f st.
@@ -23,9 +24,9 @@ loop-turn-preserved g c =
                 let sz = size-read _ P limit so up C all k.to _ _ c.args.end f k.cursor c.in-Some.ensures.apart ws hs k.going.is c.in-Some.size c.in-Some.ensures.sized in
                 let small = place-small _ P limit so up C all k.to _ _ c.args.end f k.cursor c.in-Some.ensures.apart c.in-Some.size sz in
                 walk-scan _ P limit so up C all roots rounds ws hs e1 _ _ c.args.end f _ k c.in-Some.ensures.apart c.in-Some.size c.place-place.result _ sz c.place-place.ensures (c.next-cursor.ensures small)
-                (ap (λ (x : ℕ). x % 4) (sym c.look.ensures) ∙ w.if-look-eq3.true) _ _ _ _ _ _ w.scan.ensures.kept w.scan.ensures.scanned w.drain.ensures.drained,
+                (ap (λ (x : ℕ). x % 4) (sym c.look.ensures) ∙ eqb-true _ 3 (sym c.is_marked.ensures ∙ w.if-is_marked.true)) _ _ _ _ _ _ w.scan.ensures.kept w.scan.ensures.scanned w.drain.ensures.drained,
           )
-      | else-look-eq3 w ↦
+      | else-is_marked w ↦
           rw (w.self-is, w.space-is) (
             inv.0,
             λ P limit so C all roots rounds e f st.
@@ -34,7 +35,7 @@ loop-turn-preserved g c =
                 let sz = size-read _ P limit so up C all k.to _ _ c.args.end f k.cursor c.in-Some.ensures.apart ws hs k.going.is c.in-Some.size c.in-Some.ensures.sized in
                 let small = place-small _ P limit so up C all k.to _ _ c.args.end f k.cursor c.in-Some.ensures.apart c.in-Some.size sz in
                 walk-skip _ P limit so up C all roots rounds ws hs e1 _ _ c.args.end f _ k c.in-Some.ensures.apart c.in-Some.size c.place-place.result _ sz c.place-place.ensures (c.next-cursor.ensures small)
-                (λ z. w.if-look-eq3.false (ap (λ (x : ℕ). x % 4) c.look.ensures ∙ z)),
+                (λ z. eqb-false _ 3 (sym c.is_marked.ensures ∙ w.if-is_marked.false) (ap (λ (x : ℕ). x % 4) c.look.ensures ∙ z)),
           )
     ]
 

@@ -2,7 +2,7 @@ use Rattle.std.proofs.Common.{◌≡◌, ℕ, ◌-◌, length}
 use Rattle.space.specs.Weave.{view, Kept}
 use Rattle.space.specs.Pass.{Plan}
 use Rattle.space.specs.Standing.{Standing, Sides}
-use Rattle.marking.specs.Marks.{Going, stage, nothing}
+use Rattle.marking.specs.Marks.{count, Going, stage, nothing}
 use Rattle.marking.proofs.Pending.settle.Given as goal
 
 abbrev pub invariant-loop-round : goal.invariant-loop-round
@@ -12,5 +12,5 @@ invariant-loop-round g l =
     let vs = g.M.Memory.words l.space.memory in
     Kept ws hs vs l.space.handles
     × ((P : Plan) (limit : ℕ) → Standing (g.S.Scheme.meaning l.scheme) P limit → P.n ≡ length ws → Sides (g.S.Scheme.meaning l.scheme) P l.bounds.limit l.bounds.low l.bounds.high →
-    Going P limit (stage 32 nothing 16384 16384) (view ws hs) l.initial.self → l.initial.self.count ≡ 0 →
-    Going P limit (stage 32 nothing 16384 (16384 - l.round)) (view vs l.space.handles) l.self × (l.self.count ≡ 0))
+    Going P limit (stage 32 nothing 16384 16384) (view ws hs) l.initial.self → count l.initial.self ≡ 0 →
+    Going P limit (stage 32 nothing 16384 (16384 - l.round)) (view vs l.space.handles) l.self × (count l.self ≡ 0))

@@ -1,9 +1,10 @@
 use Rattle.std.proofs.Common.{ℕ, ◌%◌, sym, ap, ◌∙◌, inl, inr}
+use Rattle.std.proofs.lemmas.Bool.{eqb-true, eqb-false}
 use Rattle.space.proofs.Wovens.{kept_refl, kept_then}
 use Rattle.marking.proofs.Walks.{walk-stop, size-read, place-small}
 use Rattle.marking.proofs.Fades.{clear-start, clear-off, clear-skip, clear-end}
 use Rattle.marking.proofs.unmark.unmark_side.Goals as goal
-use Rattle.marking.proofs.unmark.unmark_side.Goals.{then-header-eq3, else-header-eq3}
+use Rattle.marking.proofs.unmark.unmark_side.Goals.{then-is_marked, else-is_marked}
 
 pub loop-turn-init : goal.loop-turn-init
 loop-turn-init g c = (kept_refl _ _, λ m P limit so C all e f w. w)
@@ -14,8 +15,8 @@ loop-turn-preserved g c =
     let up = g.T.Side.upward in
     let ws = g.M.Memory.words c.loop-turn.space.memory in
     let hs = c.loop-turn.space.handles in
-    elim c.if-header-eq3.branch [
-      | then-header-eq3 w ↦
+    elim c.if-is_marked.branch [
+      | then-is_marked w ↦
           rw w.space-is (
             kept_then inv.0 w.store.ensures.kept,
             λ m P limit so C all e f st.
@@ -24,9 +25,9 @@ loop-turn-preserved g c =
                 let sz = size-read m P limit so up C all k.to _ _ c.args.end f k.cursor c.in-Some.ensures.apart ws hs k.fading.is c.in-Some.size c.in-Some.ensures.sized in
                 let small = place-small m P limit so up C all k.to _ _ c.args.end f k.cursor c.in-Some.ensures.apart c.in-Some.size sz in
                 clear-off m P limit so up C all ws hs e1 _ _ c.args.end f k c.in-Some.ensures.apart c.in-Some.size c.place-place.result _ sz c.place-place.ensures (c.next-cursor.ensures small)
-                (ap (λ (x : ℕ). x % 4) (sym c.look-header.ensures) ∙ w.if-header-eq3.true) _ _ c.look-header.result c.look-header.ensures w.store.ensures,
+                (ap (λ (x : ℕ). x % 4) (sym c.look-header.ensures) ∙ eqb-true _ 3 (sym c.is_marked.ensures ∙ w.if-is_marked.true)) _ _ c.look-header.result c.look-header.ensures w.store.ensures,
           )
-      | else-header-eq3 w ↦
+      | else-is_marked w ↦
           rw w.space-is (
             inv.0,
             λ m P limit so C all e f st.
@@ -35,7 +36,7 @@ loop-turn-preserved g c =
                 let sz = size-read m P limit so up C all k.to _ _ c.args.end f k.cursor c.in-Some.ensures.apart ws hs k.fading.is c.in-Some.size c.in-Some.ensures.sized in
                 let small = place-small m P limit so up C all k.to _ _ c.args.end f k.cursor c.in-Some.ensures.apart c.in-Some.size sz in
                 clear-skip m P limit so up C all ws hs e1 _ _ c.args.end f k c.in-Some.ensures.apart c.in-Some.size c.place-place.result _ sz c.place-place.ensures (c.next-cursor.ensures small)
-                (λ z. w.if-header-eq3.false (ap (λ (x : ℕ). x % 4) c.look-header.ensures ∙ z)),
+                (λ z. eqb-false _ 3 (sym c.is_marked.ensures ∙ w.if-is_marked.false) (ap (λ (x : ℕ). x % 4) c.look-header.ensures ∙ z)),
           )
     ]
 
