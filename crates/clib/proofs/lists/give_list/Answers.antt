@@ -1,5 +1,5 @@
 use Rattle.std.proofs.Common.{◌≡◌, ℕ, ◌+◌, ◌<◌, List, [], ◌∷◌, ◌++◌, length, get_or, take, sym, refl, ap, ◌∙◌, subst, ap₂, arith}
-use Rattle.std.proofs.lemmas.List.{take_more, take_more_set, drop-set-lt, length-set}
+use Rattle.std.proofs.lemmas.List.{take_more, take_more_set, drop-set-lt, length-set, get_or-take, length-take-le}
 use Rattle.scheme.specs.Meaning.{Meaning}
 use Rattle.graph.specs.Advance.{State}
 use Rattle.heap.specs.Views.{view}
@@ -25,9 +25,13 @@ loop-i-preserved g c =
     let r = c.give_words.result in
     let v = view {S = g.row.S.Denot} g.M.Memory.words c.loop-i.heap in
     let v' = view {S = g.row.S.Denot} g.M.Memory.words c.give_words.new.heap in
-    let told : Answers m w v v' r = subst (λ s. Answers (g.S.Scheme.meaning s) w v v' r) inv.4 c.give_words.ensures.answers in
-    let among : i < length calls = omega (arith, c.loop-i-test.true, c.min-given.ensures) in
-    let room : i < length c.loop-i.answers = omega (arith, c.loop-i-test.true, c.min-given.ensures, inv.6) in
+    let given = c.min-given.result in
+    let long : length (take given calls) ≡ given = length-take-le given calls (omega (arith, c.min-given.ensures)) in
+    let here : i < given = omega (arith, c.loop-i-test.true, long) in
+    let told : Answers m w v v' r =
+    subst (λ x. Answers m x v v' r) (get_or-take given calls i none here) (subst (λ s. Answers (g.S.Scheme.meaning s) (get_or (take given calls) i none) v v' r) inv.4 c.give_words.ensures.answers) in
+    let among : i < length calls = omega (arith, here, c.min-given.ensures) in
+    let room : i < length c.loop-i.answers = omega (arith, here, c.min-given.ensures, inv.6) in
     let more : take (i + 1) calls ≡ take i calls ++ (w ∷ []) = take_more calls i none among in
     let next = λ (st : State) (s : StandsAt m (view {S = g.row.S.Denot} g.M.Memory.words c.args.heap.now) st). one_more m W (take i calls) w v v' r st inv.3 (inv.1 st s) told in (
       λ st s.
@@ -49,7 +53,8 @@ returns g c =
     let m : Meaning = g.S.Scheme.meaning c.args.heap.now.scheme in
     let W : ℕ = c.args.heap.now.limit in
     let calls = c.args.calls.now in
-    let end : c.loop-i.i ≡ c.min-given.result = omega (arith, c.loop-i.auto.i-end, c.loop-i-test.false) in
+    let long : length (take c.min-given.result calls) ≡ c.min-given.result = length-take-le c.min-given.result calls (omega (arith, c.min-given.ensures)) in
+    let end : c.loop-i.i ≡ c.min-given.result = omega (arith, long, c.loop-i-test.false) in
     record {
       gives = record {
         count = c.min-given.ensures;
