@@ -1,2 +1,2 @@
 mod Runs
-mod Schemes
+mod Under

@@ -29,35 +29,14 @@ module _ (m : Meaning) (W : ℕ) where
         subst (λ (k : ℕ). drop k v'.words ≡ drop k v.words) limit (a.later now stands),
       )
 
-heads : {A : Type 0} {x y : A} {xs ys : List A} → x ∷ xs ≡ y ∷ ys → x ≡ y
-heads {x = x} e = ap (λ l. first x l) e
-  where
-    first : {A : Type 0} → A → List A → A
-    first d [] = d
-    first d (z ∷ zs) = z
-
-tails : {A : Type 0} {x y : A} {xs ys : List A} → x ∷ xs ≡ y ∷ ys → xs ≡ ys
-tails e = ap rest e
-  where
-    rest : {A : Type 0} → List A → List A
-    rest [] = []
-    rest (z ∷ zs) = zs
-
-none-is-some : {A : Type 0} {x : A} {xs : List A} → x ∷ xs ≡ [] → ⊥
-none-is-some {A = A} e = subst filled e tt
-  where
-    filled : List A → Type 0
-    filled [] = ⊥
-    filled (z ∷ zs) = Unit {0}
-
 pub lists_agree : ListsAgree
 lists_agree m W [] [] st e = (refl, refl)
-lists_agree m W [] (c ∷ cs) st e = absurd (none-is-some (sym e))
-lists_agree m W (w ∷ ws) [] st e = absurd (none-is-some e)
+lists_agree m W [] (c ∷ cs) st e = cc
+lists_agree m W (w ∷ ws) [] st e = cc
 lists_agree m W (w ∷ ws) (c ∷ cs) st e =
-    let here : call_of w ≡ Some c = heads e in
+    let here : call_of w ≡ Some c = cc in
     let next : answered m W w st ≡ (answer_of (advance m W c st).0, (advance m W c st).1) = ap (λ (o : Option Call). answered_to m W o st) here in
-    let rest = lists_agree m W ws cs (advance m W c st).1 (tails e) in
+    let rest = lists_agree m W ws cs (advance m W c st).1 cc in
     let moved : answers m W ws (answered m W w st).1 ≡ answers m W ws (advance m W c st).1 = ap (λ (x : Answer × State). answers m W ws x.1) next in (
       ap₂ {C = List Answer} (λ (a : Answer) (rest : List Answer). a ∷ rest) (ap (λ (x : Answer × State). x.0) next) (ap (λ (x : List Answer × State). x.0) moved ∙ rest.0),
       ap (λ (x : List Answer × State). x.1) moved ∙ rest.1,

@@ -1,5 +1,5 @@
 -- Calls and answers in their fixed form, and what a list of them gives.
-use Rattle.std.specs.Prelude.{◌≡◌, ℕ, cond, List, [], ◌∷◌, map, ℤ, pos, Some, None, Ok, Err, Option, ◌==◌}
+use Rattle.std.specs.Prelude.{◌≡◌, ℕ, cond, List, [], ◌∷◌, map, ℤ, pos, Some, None, Ok, Err, Option, ◌==◌, Result, MatchResult}
 use Rattle.std.proofs.Common.{to_z}
 use Rattle.std.specs.Int.{w32}
 use Rattle.scheme.specs.Meaning.{Meaning}
@@ -10,6 +10,7 @@ use Rattle.graph.specs.Step.{Outcome}
 use Rattle.graph.specs.Advance.{State, advance, advances}
 use Rattle.clib.specs.declared.forms.CallWords.{CallWords}
 use Rattle.clib.specs.declared.forms.Answer.{Answer}
+use Rattle.clib.specs.declared.forms.NoCall.{NoCall}
 
 -- the call that five words stand for
 abbrev pub call_of : CallWords → Option Call
@@ -35,6 +36,10 @@ call_of w =
     (cond (n == 17) (Some Fill)
     (cond (n == 18) (Some Stepped)
     (cond (n == 19) (Some GivenUp) None)))))))))))))))))))
+
+-- five words are read as their call, or as none where they stand for none
+abbrev pub Reads : CallWords → Result Call NoCall → Type 0
+Reads w r = MatchResult r (λ c. call_of w ≡ Some c) (λ _. call_of w ≡ None)
 
 abbrev pub answer : ℕ → ℕ → ℤ → Answer
 answer granted position number = record { granted = granted; position = position; number = number }

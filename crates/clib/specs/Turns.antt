@@ -1,5 +1,5 @@
 -- What is done to a heap that its caller keeps.
-use Rattle.std.specs.Prelude.{◌≡◌, ℕ, min, List, [], ◌++◌, length, take, drop, replicate, ℤ, pos, negsuc, Ok, ◌≢◌}
+use Rattle.std.specs.Prelude.{◌≡◌, ℕ, min, List, [], ◌++◌, length, take, drop, replicate, ℤ, pos, Ok, ◌≢◌}
 use Rattle.scheme.specs.Meaning.{Meaning}
 use Rattle.graph.specs.declared.Call.TheVariants.{Collect}
 use Rattle.graph.specs.Graph.{bare}
@@ -9,10 +9,9 @@ use Rattle.heap.specs.Asides.{view_of}
 use Rattle.heap.specs.Effects.{View}
 use Rattle.heap.specs.Views.{Stands, Follows}
 use Rattle.heap.specs.Phases.{Begins, Draws, Closes, GivesUp}
-use Rattle.clib.specs.declared.turns.Step.{Step}
-use Rattle.clib.specs.declared.turns.Step.TheVariants.{Collect as Collect', Begin, Draw, Close, GiveUp}
 use Rattle.clib.specs.declared.forms.CallWords.{CallWords}
 use Rattle.clib.specs.declared.forms.Answer.{Answer}
+use Rattle.clib.specs.Errors.{out_of_turn}
 use Rattle.clib.specs.Forms.{answered, answers}
 
 abbrev pub StandsAt : Meaning → View → State → Type 0
@@ -35,13 +34,6 @@ pub record Gives (m : Meaning) (calls : List CallWords) (before after : View) (o
   pub behind : drop given new ≡ drop given old
 
 -- Calls from outside on a heap that was put aside: `a` with the words `ws` before, `b` with the words `vs` after.
-
--- what is answered where the heap is not in the phase that is asked for, and where the scheme is none of the two
-abbrev pub out_of_turn : ℤ
-out_of_turn = negsuc 0
-
-abbrev pub no_scheme : ℤ
-no_scheme = negsuc 1
 
 -- 0 is the phase of a resting heap and 1 that of a begun one; any other is that of a drawn one
 pub record IsDrawn (a : Aside) : Type 0 where
@@ -88,11 +80,3 @@ pub record Opened (m : Meaning) (ws vs : List ℕ) (b : Aside) (r : ℤ) : Type 
   pub limit : b.limit ≡ min (length ws) 16384
   pub told : r ≡ pos b.limit
   pub phase : b.phase ≡ 0
-
--- a whole collection, or a step of one
-abbrev pub Taken : Step → Meaning → List ℕ → Aside → List ℕ → Aside → ℤ → Type 0
-Taken Collect' = Collected
-Taken Begin = BegunBy
-Taken Draw = DrawnBy
-Taken Close = ClosedBy
-Taken GiveUp = GivenUpBy

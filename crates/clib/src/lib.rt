@@ -2,29 +2,25 @@
 #![tactic(auto)]
 
 ghost use Rattle.std.specs.Prelude.{◌≡◌, ℕ, List};
-ghost use Rattle.clib.specs.States.{Under, Turn};
-ghost use Rattle.clib.specs.Turns.{Opened, Collected, Listed, BegunBy, DrawnBy, ClosedBy, GivenUpBy, Taken};
+ghost use Rattle.clib.specs.Errors.{number_of};
+ghost use Rattle.clib.specs.States.{Under, Turn, TurnedBy};
+ghost use Rattle.clib.specs.Turns.{Opened, Collected, Listed, BegunBy, DrawnBy, ClosedBy, GivenUpBy};
 
+use errors::{TurnError, number_of};
 use forms::{Answer, CallWords};
 use heap::Aside;
-use scheme::{Mask, Prefix};
-use turns::Step;
+use schemes::AnyScheme;
+use turns::{Kept, Turned};
 
+mod errors;
 mod forms;
 mod lists;
+mod schemes;
 #[cfg(test)]
 mod trial;
 mod turns;
 
-/// The numbers of the schemes.
-const PREFIX: u32 = 0;
-
-const MASK: u32 = 1;
-
-/// What is answered where the scheme is neither.
-const NO_SCHEME: i64 = -2;
-
-/// A heap as its caller keeps it between two calls, beside the words.
+/// A heap as its caller keeps it between two calls, beside the words. C lays it out as numbers, so the scheme is one.
 #[repr(C)]
 #[derive(Clone, Copy)]
 pub struct State {
@@ -37,13 +33,34 @@ pub struct State {
 pub extern "C" fn fusuma_new(words: &mut [u32], state: &mut State, scheme: u32) -> i64
     ensures { Under scheme (λ m. (vs : List ℕ) × Opened m words.old vs state.new.heap result × (state.new.scheme ≡ scheme)) (state.new ≡ state.old) result }
 {
-    let (_, answer) = match scheme {
-        PREFIX => turns::open(&mut *words, Prefix, &mut state.heap),
-        MASK => turns::open(&mut *words, Mask, &mut state.heap),
-        _ => return NO_SCHEME,
-    };
+    number_of(open(&mut *words, &mut *state, scheme))
+}
+
+/// Opens a heap by the scheme of that number.
+fn open(words: &mut [u32], state: &mut State, scheme: u32) -> Result<i64, TurnError>
+    ensures { Under scheme (λ m. (vs : List ℕ) × Opened m words.old vs state.new.heap (number_of result) × (state.new.scheme ≡ scheme)) (state.new ≡ state.old) (number_of result) }
+{
+    let (kept, used) = Kept::open(words, AnyScheme::try_from(scheme)?);
     state.scheme = scheme;
-    answer
+    state.heap = kept.aside;
+    Ok(used)
+}
+
+/// Takes a step of the heap that the state keeps. Answers as the step does, or why nothing was done.
+fn turn<'a, F>(words: &'a mut [u32], state: &mut State, step: &mut F) -> Result<i64, TurnError>
+where
+    F: FnMut(Kept<&'a mut [u32], AnyScheme>) -> Turned<&'a mut [u32], AnyScheme>,
+    requires { F.IsAlwaysCallable step.old }
+    ensures { TurnedBy (λ kept out. F.step step.old kept out step.new) words.old state.old state.new result }
+{
+    let scheme = AnyScheme::try_from(state.scheme)?;
+    let (kept, answer) = step(Kept {
+        memory: words,
+        scheme,
+        aside: state.heap,
+    })?;
+    state.heap = kept.aside;
+    Ok(answer)
 }
 
 /// Gives a list of calls to a resting heap, one after another, and writes their answers.
@@ -56,34 +73,11 @@ pub extern "C" fn fusuma_give(
 ) -> i64
     ensures { Turn (λ m ws a vs b n. Listed m calls.now answers.old answers.new ws a vs b n) words.old state.old state.new result }
 {
-    match state.scheme {
-        PREFIX => {
-            let (_, answer) = turns::give_all(&mut *words, Prefix, &mut state.heap, calls, answers);
-            answer
-        }
-        MASK => {
-            let (_, answer) = turns::give_all(&mut *words, Mask, &mut state.heap, calls, answers);
-            answer
-        }
-        _ => NO_SCHEME,
-    }
-}
-
-/// Takes a step by the scheme that the state names.
-fn take(words: &mut [u32], state: &mut State, step: Step) -> i64
-    ensures { Turn (Taken step) words.old state.old state.new result }
-{
-    match state.scheme {
-        PREFIX => {
-            let (_, answer) = turns::take(&mut *words, Prefix, &mut state.heap, step);
-            answer
-        }
-        MASK => {
-            let (_, answer) = turns::take(&mut *words, Mask, &mut state.heap, step);
-            answer
-        }
-        _ => NO_SCHEME,
-    }
+    number_of(turn(
+        &mut *words,
+        &mut *state,
+        &mut |kept| kept.give(calls, answers),
+    ))
 }
 
 /// A whole collection of a resting heap.
@@ -91,7 +85,7 @@ fn take(words: &mut [u32], state: &mut State, step: Step) -> i64
 pub extern "C" fn fusuma_collect(words: &mut [u32], state: &mut State) -> i64
     ensures { Turn Collected words.old state.old state.new result }
 {
-    take(&mut *words, &mut *state, Step::Collect)
+    number_of(turn(&mut *words, &mut *state, &mut |kept| kept.collect()))
 }
 
 /// Begins a collection.
@@ -99,7 +93,7 @@ pub extern "C" fn fusuma_collect(words: &mut [u32], state: &mut State) -> i64
 pub extern "C" fn fusuma_begin(words: &mut [u32], state: &mut State) -> i64
     ensures { Turn BegunBy words.old state.old state.new result }
 {
-    take(&mut *words, &mut *state, Step::Begin)
+    number_of(turn(&mut *words, &mut *state, &mut |kept| kept.begin()))
 }
 
 /// Draws a begun heap.
@@ -107,7 +101,7 @@ pub extern "C" fn fusuma_begin(words: &mut [u32], state: &mut State) -> i64
 pub extern "C" fn fusuma_draw(words: &mut [u32], state: &mut State) -> i64
     ensures { Turn DrawnBy words.old state.old state.new result }
 {
-    take(&mut *words, &mut *state, Step::Draw)
+    number_of(turn(&mut *words, &mut *state, &mut |kept| kept.draw()))
 }
 
 /// Closes a drawn heap.
@@ -115,7 +109,7 @@ pub extern "C" fn fusuma_draw(words: &mut [u32], state: &mut State) -> i64
 pub extern "C" fn fusuma_close(words: &mut [u32], state: &mut State) -> i64
     ensures { Turn ClosedBy words.old state.old state.new result }
 {
-    take(&mut *words, &mut *state, Step::Close)
+    number_of(turn(&mut *words, &mut *state, &mut |kept| kept.close()))
 }
 
 /// Gives up the collection of a begun heap.
@@ -123,5 +117,5 @@ pub extern "C" fn fusuma_close(words: &mut [u32], state: &mut State) -> i64
 pub extern "C" fn fusuma_give_up(words: &mut [u32], state: &mut State) -> i64
     ensures { Turn GivenUpBy words.old state.old state.new result }
 {
-    take(&mut *words, &mut *state, Step::GiveUp)
+    number_of(turn(&mut *words, &mut *state, &mut |kept| kept.give_up()))
 }

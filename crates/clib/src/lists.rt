@@ -4,7 +4,8 @@ ghost use Rattle.heap.specs.Views.{view};
 ghost use Rattle.clib.specs.Forms.{ListsAgree};
 ghost use Rattle.clib.specs.Turns.{Answers, Gives};
 
-use crate::forms::{Answer, CallWords, answer_of, call_of, no_call};
+use crate::forms::{Answer, CallWords};
+use graph::Call;
 use heap::Heap;
 use memory::Memory;
 use scheme::Scheme;
@@ -14,9 +15,9 @@ pub fn give_words<M: Memory, S: Scheme>(heap: &mut Heap<M, S>, words: CallWords)
     ensures answers { Answers (S.Scheme.meaning heap.old.scheme) words (view M.Memory.words heap.old) (view M.Memory.words heap.new) result }
     ensures scheme { heap.new.scheme ≡ heap.old.scheme }
 {
-    match call_of(words) {
-        Some(call) => answer_of(heap.give(call)),
-        None => no_call(),
+    match Call::try_from(words) {
+        Ok(call) => Answer::from(heap.give(call)),
+        Err(none) => Answer::from(none),
     }
 }
 
@@ -30,8 +31,9 @@ pub fn give_list<M: Memory, S: Scheme>(
     ensures scheme { heap.new.scheme ≡ heap.old.scheme }
 {
     let given = calls.len().min(answers.len());
-    for i in 0..given {
-        answers[i] = give_words(heap, calls[i]);
+    // Not a `zip` with `answers.iter_mut()`: a proof knows nothing of a slice after a loop over an adapter of its `iter_mut`.
+    for (i, call) in calls[..given].iter().enumerate() {
+        answers[i] = give_words(heap, *call);
     }
     given
 }

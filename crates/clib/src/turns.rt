@@ -1,162 +1,167 @@
-// What a caller from outside may do to a heap that it keeps, over any memory and scheme. Each function takes the memory, and gives it back.
-ghost use Rattle.clib.specs.Turns.{Opened, Collected, Listed, BegunBy, DrawnBy, ClosedBy, GivenUpBy, Taken};
+// What a caller from outside may do to a heap that it keeps, over any memory and scheme.
+ghost use Rattle.std.specs.Prelude.{◌≡◌, ◌≢◌, ◌↔◌, IsOk, MatchResult};
+ghost use Rattle.heap.specs.Asides.{Resumes};
+ghost use Rattle.clib.specs.Turns.{Opened, Collected, Listed, BegunBy, DrawnBy, ClosedBy, GivenUpBy, IsDrawn};
+ghost use Rattle.clib.specs.Kept.{Does};
+ghost use Rattle.clib.specs.declared.errors.TurnError.{TurnError};
 
+use crate::errors::TurnError;
 use crate::forms::{Answer, CallWords};
 use crate::lists::give_list;
-use heap::{Aside, Heap, Phase, WORDS};
+use heap::{Aside, Begun, Drawn, Heap, Phase, WORDS};
 use memory::Memory;
 use scheme::Scheme;
 
-/// What is answered where the heap is not in the phase that is asked for.
-pub const OUT_OF_TURN: i64 = -1;
-
-/// A whole collection, or a step of one.
-#[derive(Clone, Copy)]
-pub enum Step {
-    Collect,
-    Begin,
-    Draw,
-    Close,
-    GiveUp,
+/// A heap as its caller keeps it between two calls: its memory and scheme, and what was put aside of it.
+#[derive(Drop)]
+pub struct Kept<M: Memory, S: Scheme> {
+    pub memory: M,
+    pub scheme: S,
+    pub aside: Aside,
 }
 
-/// A new heap over the memory, put aside. Answers how many words it uses.
-pub fn open<M: Memory, S: Scheme + Drop>(memory: M, scheme: S, aside: &mut Aside) -> (M, i64)
-    ensures { Opened (S.Scheme.meaning scheme) (M.Memory.words memory) (M.Memory.words result.0) aside.new result.1 }
-{
-    let words = memory.length().min(WORDS);
-    let (memory, _, rested) = Phase::Resting(Heap::new(memory, scheme)).suspend();
-    *aside = rested;
-    (memory, words as i64)
+/// The heap is not in the phase that is asked for: it comes back as it was.
+#[derive(Drop)]
+pub struct OutOfTurn<M: Memory, S: Scheme>(pub Kept<M, S>);
+
+/// What a turn gives: the heap after it, with its answer.
+pub type Turned<M, S> = Result<(Kept<M, S>, i64), OutOfTurn<M, S>>;
+
+impl<M: Memory + Drop, S: Scheme + Drop> From<OutOfTurn<M, S>> for TurnError {
+    ghost from_gives = { λ _ error. error ≡ TurnError.OutOfTurn };
+
+    fn from(_kept: OutOfTurn<M, S>) -> TurnError {
+        TurnError::OutOfTurn
+    }
 }
 
-/// A whole collection of a resting heap. Answers the live words.
-fn collect<M: Memory, S: Scheme + Drop>(memory: M, scheme: S, aside: &mut Aside) -> (M, i64)
-    ensures { Collected (S.Scheme.meaning scheme) (M.Memory.words memory) aside.old (M.Memory.words result.0) aside.new result.1 }
-{
-    match Phase::resume(memory, scheme, aside) {
-        Phase::Resting(mut heap) => {
-            let live = heap.collect();
-            let (memory, _, rested) = Phase::Resting(heap).suspend();
-            *aside = rested;
-            (memory, i64::from(live))
-        }
-        other => {
-            let (memory, _, _) = other.suspend();
-            (memory, OUT_OF_TURN)
+impl<M: Memory, S: Scheme> From<Phase<M, S>> for Kept<M, S> {
+    ghost from_gives = { λ phase kept. Resumes kept.memory kept.scheme kept.aside phase };
+
+    fn from(phase: Phase<M, S>) -> Kept<M, S> {
+        let (memory, scheme, aside) = phase.suspend();
+        Kept {
+            memory,
+            scheme,
+            aside,
         }
     }
 }
 
-/// Gives a list of calls to a resting heap. Answers how many it gave.
-pub fn give_all<M: Memory, S: Scheme + Drop>(
-    memory: M,
-    scheme: S,
-    aside: &mut Aside,
-    calls: &[CallWords],
-    answers: &mut [Answer],
-) -> (M, i64)
-    ensures { Listed (S.Scheme.meaning scheme) calls.now answers.old answers.new (M.Memory.words memory) aside.old (M.Memory.words result.0) aside.new result.1 }
-{
-    match Phase::resume(memory, scheme, aside) {
-        Phase::Resting(mut heap) => {
-            let given = give_list(&mut heap, calls, answers);
-            let (memory, _, rested) = Phase::Resting(heap).suspend();
-            *aside = rested;
-            (memory, given as i64)
-        }
-        other => {
-            let (memory, _, _) = other.suspend();
-            (memory, OUT_OF_TURN)
+impl<M: Memory, S: Scheme> Kept<M, S> {
+    /// A new heap over the memory. Answers how many words it uses.
+    pub fn open(memory: M, scheme: S) -> (Self, i64)
+        ensures opened { Opened (S.Scheme.meaning scheme) (M.Memory.words memory) (M.Memory.words result.0.memory) result.0.aside result.1 }
+        ensures scheme { result.0.scheme ≡ scheme }
+    {
+        let words = memory.length().min(WORDS);
+        let heap = Heap::new(memory, scheme);
+        (Kept::from(Phase::Resting(heap)), words as i64)
+    }
+
+    /// The heap in its phase.
+    fn resume(self) -> Phase<M, S>
+        ensures { Resumes self.memory self.scheme self.aside result }
+    {
+        Phase::resume(self.memory, self.scheme, &self.aside)
+    }
+
+    /// The heap, if it rests.
+    fn resting(self) -> Result<Heap<M, S>, OutOfTurn<M, S>>
+        ensures { MatchResult result (λ heap. Resumes self.memory self.scheme self.aside (Phase.Resting heap)) (λ out. (self.aside.phase ≢ 0) × (out.0 ≡ self)) }
+    {
+        let aside = self.aside;
+        match self.resume() {
+            Phase::Resting(heap) => Ok(heap),
+            other => Err(OutOfTurn(Kept {
+                aside,
+                ..Kept::from(other)
+            })),
         }
     }
-}
 
-/// Begins a collection of a resting heap. Answers the live words.
-fn begin<M: Memory, S: Scheme + Drop>(memory: M, scheme: S, aside: &mut Aside) -> (M, i64)
-    ensures { BegunBy (S.Scheme.meaning scheme) (M.Memory.words memory) aside.old (M.Memory.words result.0) aside.new result.1 }
-{
-    match Phase::resume(memory, scheme, aside) {
-        Phase::Resting(heap) => {
-            let begun = heap.begin();
-            let live = begun.live_words();
-            let (memory, _, rested) = Phase::Begun(begun).suspend();
-            *aside = rested;
-            (memory, i64::from(live))
-        }
-        other => {
-            let (memory, _, _) = other.suspend();
-            (memory, OUT_OF_TURN)
+    /// The heap, if its collection is begun.
+    fn begun(self) -> Result<Begun<M, S>, OutOfTurn<M, S>>
+        ensures { MatchResult result (λ begun. Resumes self.memory self.scheme self.aside (Phase.Begun begun)) (λ out. (self.aside.phase ≢ 1) × (out.0 ≡ self)) }
+    {
+        let aside = self.aside;
+        match self.resume() {
+            Phase::Begun(begun) => Ok(begun),
+            other => Err(OutOfTurn(Kept {
+                aside,
+                ..Kept::from(other)
+            })),
         }
     }
-}
 
-/// Draws a begun heap. Answers 0.
-fn draw<M: Memory, S: Scheme + Drop>(memory: M, scheme: S, aside: &mut Aside) -> (M, i64)
-    ensures { DrawnBy (S.Scheme.meaning scheme) (M.Memory.words memory) aside.old (M.Memory.words result.0) aside.new result.1 }
-{
-    match Phase::resume(memory, scheme, aside) {
-        Phase::Begun(begun) => {
-            let (memory, _, rested) = Phase::Drawn(begun.draw()).suspend();
-            *aside = rested;
-            (memory, 0)
-        }
-        other => {
-            let (memory, _, _) = other.suspend();
-            (memory, OUT_OF_TURN)
+    /// The heap, if it is drawn.
+    fn drawn(self) -> Result<Drawn<M, S>, OutOfTurn<M, S>>
+        ensures { MatchResult result (λ drawn. Resumes self.memory self.scheme self.aside (Phase.Drawn drawn)) (λ out. (IsDrawn self.aside → ⊥) × (out.0 ≡ self)) }
+    {
+        let aside = self.aside;
+        match self.resume() {
+            Phase::Drawn(drawn) => Ok(drawn),
+            other => Err(OutOfTurn(Kept {
+                aside,
+                ..Kept::from(other)
+            })),
         }
     }
-}
 
-/// Closes a drawn heap. Answers the live words.
-fn close<M: Memory, S: Scheme + Drop>(memory: M, scheme: S, aside: &mut Aside) -> (M, i64)
-    ensures { ClosedBy (S.Scheme.meaning scheme) (M.Memory.words memory) aside.old (M.Memory.words result.0) aside.new result.1 }
-{
-    match Phase::resume(memory, scheme, aside) {
-        Phase::Drawn(drawn) => {
-            let (heap, live) = drawn.close();
-            let (memory, _, rested) = Phase::Resting(heap).suspend();
-            *aside = rested;
-            (memory, i64::from(live))
-        }
-        other => {
-            let (memory, _, _) = other.suspend();
-            (memory, OUT_OF_TURN)
-        }
+    /// A whole collection of a resting heap. Answers the live words.
+    pub fn collect(self) -> Turned<M, S>
+        ensures in_turn { IsOk result ↔ (self.aside.phase ≡ 0) }
+        ensures does { Does Collected M.Memory.words S.Scheme.meaning self result }
+    {
+        let mut heap = self.resting()?;
+        let live = heap.collect();
+        Ok((Kept::from(Phase::Resting(heap)), i64::from(live)))
     }
-}
 
-/// Gives up the collection of a begun heap. Answers 0.
-fn give_up<M: Memory, S: Scheme + Drop>(memory: M, scheme: S, aside: &mut Aside) -> (M, i64)
-    ensures { GivenUpBy (S.Scheme.meaning scheme) (M.Memory.words memory) aside.old (M.Memory.words result.0) aside.new result.1 }
-{
-    match Phase::resume(memory, scheme, aside) {
-        Phase::Begun(begun) => {
-            let (memory, _, rested) = Phase::Resting(begun.give_up()).suspend();
-            *aside = rested;
-            (memory, 0)
-        }
-        other => {
-            let (memory, _, _) = other.suspend();
-            (memory, OUT_OF_TURN)
-        }
+    /// Gives a list of calls to a resting heap. Answers how many it gave.
+    pub fn give(self, calls: &[CallWords], answers: &mut [Answer]) -> Turned<M, S>
+        ensures in_turn { IsOk result ↔ (self.aside.phase ≡ 0) }
+        ensures does { Does (λ m ws a vs b n. Listed m calls.now answers.old answers.new ws a vs b n) M.Memory.words S.Scheme.meaning self result }
+    {
+        let mut heap = self.resting()?;
+        let given = give_list(&mut heap, calls, answers);
+        Ok((Kept::from(Phase::Resting(heap)), given as i64))
     }
-}
 
-/// Takes a step.
-pub fn take<M: Memory, S: Scheme + Drop>(
-    memory: M,
-    scheme: S,
-    aside: &mut Aside,
-    step: Step,
-) -> (M, i64)
-    ensures { Taken step (S.Scheme.meaning scheme) (M.Memory.words memory) aside.old (M.Memory.words result.0) aside.new result.1 }
-{
-    match step {
-        Step::Collect => collect(memory, scheme, aside),
-        Step::Begin => begin(memory, scheme, aside),
-        Step::Draw => draw(memory, scheme, aside),
-        Step::Close => close(memory, scheme, aside),
-        Step::GiveUp => give_up(memory, scheme, aside),
+    /// Begins a collection of a resting heap. Answers the live words.
+    pub fn begin(self) -> Turned<M, S>
+        ensures in_turn { IsOk result ↔ (self.aside.phase ≡ 0) }
+        ensures does { Does BegunBy M.Memory.words S.Scheme.meaning self result }
+    {
+        let begun = self.resting()?.begin();
+        let live = begun.live_words();
+        Ok((Kept::from(Phase::Begun(begun)), i64::from(live)))
+    }
+
+    /// Draws a begun heap. Answers 0.
+    pub fn draw(self) -> Turned<M, S>
+        ensures in_turn { IsOk result ↔ (self.aside.phase ≡ 1) }
+        ensures does { Does DrawnBy M.Memory.words S.Scheme.meaning self result }
+    {
+        let drawn = self.begun()?.draw();
+        Ok((Kept::from(Phase::Drawn(drawn)), 0))
+    }
+
+    /// Closes a drawn heap. Answers the live words.
+    pub fn close(self) -> Turned<M, S>
+        ensures in_turn { IsOk result ↔ IsDrawn self.aside }
+        ensures does { Does ClosedBy M.Memory.words S.Scheme.meaning self result }
+    {
+        let (heap, live) = self.drawn()?.close();
+        Ok((Kept::from(Phase::Resting(heap)), i64::from(live)))
+    }
+
+    /// Gives up the collection of a begun heap. Answers 0.
+    pub fn give_up(self) -> Turned<M, S>
+        ensures in_turn { IsOk result ↔ (self.aside.phase ≡ 1) }
+        ensures does { Does GivenUpBy M.Memory.words S.Scheme.meaning self result }
+    {
+        let heap = self.begun()?.give_up();
+        Ok((Kept::from(Phase::Resting(heap)), 0))
     }
 }

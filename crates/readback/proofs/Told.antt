@@ -1,18 +1,18 @@
 -- The answers, computed from the definitions.
-use Rattle.std.proofs.Common.{◌≡◌, ℕ, min, List, length, IfOk, Ok, Err, Result, refl, ◌∙◌, ap₂}
+use Rattle.std.proofs.Common.{◌≡◌, ℕ, List, length, refl}
 use Rattle.scheme.specs.Meaning.{Meaning, prefix, mask}
 use Rattle.graph.specs.declared.Call.{Call}
 use Rattle.graph.specs.Graph.{bare}
-use Rattle.graph.specs.Step.{Outcome, run}
+use Rattle.graph.specs.Step.{run}
 use Rattle.service.specs.Still.{answers_of}
 use Rattle.readback.specs.Stored.{stored, read_back}
 
-pub prefix-told : (run prefix 32 stored bare).0 ≡ read_back
-prefix-told = refl
+module _ (m : Meaning) (memory : List ℕ) (calls : List Call) (long : length memory ≡ 32) (same : calls ≡ stored) where
+  over : (n : Meaning) → m ≡ n → answers_of m memory calls ≡ (run n 32 stored bare).0
+  over n e = rw (same, e, long) refl
 
-pub mask-told : (run mask 32 stored bare).0 ≡ read_back
-mask-told = refl
+  pub by-prefix : m ≡ prefix → answers_of m memory calls ≡ read_back
+  by-prefix e = over prefix e
 
-pub told : {X E : Type 0} (items : X → List Outcome) (m : Meaning) → (run m 32 stored bare).0 ≡ read_back → (memory : List ℕ) (calls : List Call) (r : Result X E) → length memory ≡ 32 → calls ≡ stored → IfOk r (λ v. items v ≡ answers_of m memory calls) → IfOk r (λ v. items v ≡ read_back)
-told items m is memory calls (Ok v) long same e = e ∙ ap₂ (λ (n : ℕ) (cs : List Call). (run m (min n 16384) cs bare).0) long same ∙ is
-told items m is memory calls (Err x) long same e = tt
+  pub by-mask : m ≡ mask → answers_of m memory calls ≡ read_back
+  by-mask e = over mask e

@@ -1,9 +1,11 @@
 // What was stored is read back, over both memories and both schemes: the promises at pairs that hold something and admit something.
 #![tactic(auto)]
 
-ghost use Rattle.std.specs.Prelude.{◌≡◌, List, IfOk};
+ghost use Rattle.std.specs.Prelude.{◌≡◌, List, IfOk, length};
+ghost use Rattle.scheme.specs.Meaning.{prefix, mask};
 ghost use Rattle.service.specs.Still.{answers_of};
 ghost use Rattle.readback.specs.Stored.{stored, read_back};
+ghost use Rattle.readback.specs.Pairs.{AllReadBack};
 
 use graph::{Call, Outcome};
 use memory::Memory;
@@ -11,14 +13,29 @@ use scheme::{Mask, Prefix, Scheme};
 use service::{Served, serve};
 use std::alloc::{AllocError, Global};
 
-/// The answers of a list of calls to a new heap, which is then taken apart.
-fn answers<M: Memory + Drop, S: Scheme + Drop>(
+#[cfg(test)]
+mod trial;
+
+/// The answers at each pair of a memory and a scheme.
+#[derive(Drop)]
+pub struct Pairs {
+    pub words_under_prefix: Vec<Outcome>,
+    pub words_under_mask: Vec<Outcome>,
+    pub bytes_under_prefix: Vec<Outcome>,
+    pub bytes_under_mask: Vec<Outcome>,
+}
+
+/// The answers of a list of calls to a new heap, which is then taken apart. Over any memory of 32 words, under either scheme, the stored
+/// calls are answered what was stored.
+pub fn answers<M: Memory + Drop, S: Scheme + Drop>(
     memory: M,
     scheme: S,
     calls: &[Call],
     alloc: Global,
 ) -> Result<Vec<Outcome>, AllocError>
-    ensures { IfOk result (λ v. v.items ≡ answers_of (S.Scheme.meaning scheme) (M.Memory.words memory) calls.now) }
+    ensures told { IfOk result (λ v. v.items ≡ answers_of (S.Scheme.meaning scheme) (M.Memory.words memory) calls.now) }
+    ensures by_prefix { S.Scheme.meaning scheme ≡ prefix → length (M.Memory.words memory) ≡ 32 → calls.now ≡ stored → IfOk result (λ v. v.items ≡ read_back) }
+    ensures by_mask { S.Scheme.meaning scheme ≡ mask → length (M.Memory.words memory) ≡ 32 → calls.now ≡ stored → IfOk result (λ v. v.items ≡ read_back) }
 {
     let Served { answers, heap } = serve(memory, scheme, calls, alloc)?;
     let (_, _) = heap.into_parts();
@@ -27,7 +44,7 @@ fn answers<M: Memory + Drop, S: Scheme + Drop>(
 
 /// Numbers at zero and both ends, raw words that look like references, a record that names itself, and its layout and map, stored and read
 /// back behind a collection at once, one by steps and one given up.
-fn stored_calls() -> [Call; 33]
+pub fn stored_calls() -> [Call; 33]
     ensures { result ≡ stored }
 {
     [
@@ -161,38 +178,15 @@ fn stored_calls() -> [Call; 33]
     ]
 }
 
-/// Over 32 words with PREFIX.
-pub fn words_under_prefix(alloc: Global) -> Result<Vec<Outcome>, AllocError>
-    ensures { IfOk result (λ v. v.items ≡ read_back) }
+/// What the stored calls are answered at each pair of a memory and a scheme. 131 bytes are 32 words and three bytes left over.
+pub fn at_each_pair(alloc: Global) -> Result<Pairs, AllocError>
+    ensures { IfOk result (λ pairs. AllReadBack pairs) }
 {
-    let mut words = [0u32; 32];
     let calls = stored_calls();
-    answers(&mut words[..], Prefix, &calls, alloc)
-}
-
-/// Over 32 words with MASK.
-pub fn words_under_mask(alloc: Global) -> Result<Vec<Outcome>, AllocError>
-    ensures { IfOk result (λ v. v.items ≡ read_back) }
-{
-    let mut words = [0u32; 32];
-    let calls = stored_calls();
-    answers(&mut words[..], Mask, &calls, alloc)
-}
-
-/// Over 131 bytes, which are 32 words and three bytes left over, with PREFIX.
-pub fn bytes_under_prefix(alloc: Global) -> Result<Vec<Outcome>, AllocError>
-    ensures { IfOk result (λ v. v.items ≡ read_back) }
-{
-    let mut bytes = [0u8; 131];
-    let calls = stored_calls();
-    answers(&mut bytes[..], Prefix, &calls, alloc)
-}
-
-/// Over 131 bytes with MASK.
-pub fn bytes_under_mask(alloc: Global) -> Result<Vec<Outcome>, AllocError>
-    ensures { IfOk result (λ v. v.items ≡ read_back) }
-{
-    let mut bytes = [0u8; 131];
-    let calls = stored_calls();
-    answers(&mut bytes[..], Mask, &calls, alloc)
+    Ok(Pairs {
+        words_under_prefix: answers(&mut [0u32; 32][..], Prefix, &calls, alloc)?,
+        words_under_mask: answers(&mut [0u32; 32][..], Mask, &calls, alloc)?,
+        bytes_under_prefix: answers(&mut [0u8; 131][..], Prefix, &calls, alloc)?,
+        bytes_under_mask: answers(&mut [0u8; 131][..], Mask, &calls, alloc)?,
+    })
 }

@@ -16,15 +16,16 @@ use Rattle.service.proofs.serve.Goals as goal
 
 pub loop-call-init : goal.loop-call-init
 loop-call-init g c =
-    let made = c.in_ok-answers.ensures in (
-      made.items,
-      subst (λ s. Stands (g.S.Scheme.meaning s) (view {S = g.row.S.Denot} g.M.Memory.words c.new-heap.result) bare []) (sym c.new-heap.ensures.scheme) c.new-heap.ensures.stands,
-      refl,
-      refl,
-      refl,
-      made.len,
-      made.capacity,
-    )
+    let made = c.in_ok-answers.ensures in
+    record {
+      told = made.items;
+      stands = subst (λ s. Stands (g.S.Scheme.meaning s) (view {S = g.row.S.Denot} g.M.Memory.words c.new-heap.result) bare []) (sym c.new-heap.ensures.scheme) c.new-heap.ensures.stands;
+      scheme = refl;
+      limit = refl;
+      later = refl;
+      count = made.len;
+      room = made.capacity;
+    }
 
 pub loop-call-preserved : goal.loop-call-preserved
 loop-call-preserved g c =
@@ -38,16 +39,17 @@ loop-call-preserved g c =
     let v = view {S = g.row.S.Denot} g.M.Memory.words c.loop-call.heap in
     let w = view {S = g.row.S.Denot} g.M.Memory.words c.run-next.result.0 in
     let meets = c.run-next.ensures in
-    let follows : Follows m call v w (outcome_of (λ n. n) r) = subst (λ s. Follows (g.S.Scheme.meaning s) call v w (outcome_of (λ n. n) r)) inv.2 meets.follows in
-    let more : take (i + 1) calls ≡ take i calls ++ call ∷ [] = take_more calls i (Num 0 (pos 0)) c.loop-call-test.true in (
-      c.push_reserved.ensures.items ∙ more-told m W (take i calls) call v w r inv.3 inv.1 follows (vec_items c.loop-call.answers) inv.0 ∙ ap (λ cs. (advances m W cs start).0) (sym more),
-      subst (λ cs. StandsAt m W w (advances m W cs start).1) (sym more) (more-stands m W (take i calls) call v w r inv.3 inv.1 follows),
-      meets.scheme ∙ inv.2,
-      meets.follows.limit ∙ inv.3,
-      more-later m W (take i calls) call v w r inv.3 inv.1 follows ∙ inv.4,
-      omega (arith, c.push_reserved.ensures.len, inv.5),
-      omega (arith, c.push_reserved.ensures.capacity, inv.6),
-    )
+    let follows : Follows m call v w (outcome_of (λ n. n) r) = subst (λ s. Follows (g.S.Scheme.meaning s) call v w (outcome_of (λ n. n) r)) inv.scheme meets.follows in
+    let more : take (i + 1) calls ≡ take i calls ++ call ∷ [] = take_more calls i (Num 0 (pos 0)) c.loop-call-test.true in
+    record {
+      told = c.push_reserved.ensures.items ∙ more-told m W (take i calls) call v w r inv.limit inv.stands follows (vec_items c.loop-call.answers) inv.told ∙ ap (λ cs. (advances m W cs start).0) (sym more);
+      stands = subst (λ cs. StandsAt m W w (advances m W cs start).1) (sym more) (more-stands m W (take i calls) call v w r inv.limit inv.stands follows);
+      scheme = meets.scheme ∙ inv.scheme;
+      limit = meets.follows.limit ∙ inv.limit;
+      later = more-later m W (take i calls) call v w r inv.limit inv.stands follows ∙ inv.later;
+      count = omega (arith, c.push_reserved.ensures.len, inv.count);
+      room = omega (arith, c.push_reserved.ensures.capacity, inv.room);
+    }
 
 pub returns : goal.returns
 returns g c =
@@ -65,14 +67,14 @@ returns g c =
     let v = view {S = g.row.S.Denot} words h in
     let run_is : advances (m c.new-heap.result.scheme) c.new-heap.result.limit (take i calls) start ≡ advances M W calls start =
     ap (λ cs. advances (m c.new-heap.result.scheme) c.new-heap.result.limit cs start) all ∙ ap (λ s. advances (m s) c.new-heap.result.limit calls start) new.scheme ∙ ap (λ k. advances M k calls start) new.limit in
-    let told : vec_items c.loop-call.answers ≡ (run M W calls bare).0 = inv.0 ∙ ap (λ x. x.0) run_is ∙ (runs-agree M W calls start).0 in
+    let told : vec_items c.loop-call.answers ≡ (run M W calls bare).0 = inv.told ∙ ap (λ x. x.0) run_is ∙ (runs-agree M W calls start).0 in
     let stands : StandsAt M W v (advances M W calls start).1 =
-    subst (λ x. StandsAt M W v x.1) run_is (subst (λ s. Stands (m s) v (advances (m c.new-heap.result.scheme) c.new-heap.result.limit (take i calls) start).1.graph (advances (m c.new-heap.result.scheme) c.new-heap.result.limit (take i calls) start).1.standing) new.scheme inv.1) in
+    subst (λ x. StandsAt M W v x.1) run_is (subst (λ s. Stands (m s) v (advances (m c.new-heap.result.scheme) c.new-heap.result.limit (take i calls) start).1.graph (advances (m c.new-heap.result.scheme) c.new-heap.result.limit (take i calls) start).1.standing) new.scheme inv.stands) in
     let later : drop W (words h.space.memory) ≡ drop W old =
     subst (λ k. drop k (words h.space.memory) ≡ drop k old) new.limit
-    (inv.4 ∙ ap (drop c.new-heap.result.limit) new.zeros ∙ drop_at (replicate c.new-heap.result.limit 0) (drop c.new-heap.result.limit old) c.new-heap.result.limit (length-replicate c.new-heap.result.limit 0)) in
+    (inv.later ∙ ap (drop c.new-heap.result.limit) new.zeros ∙ drop_at (replicate c.new-heap.result.limit 0) (drop c.new-heap.result.limit old) c.new-heap.result.limit (length-replicate c.new-heap.result.limit 0)) in
     let graph_is = (runs-agree M W calls start).1 in
-    let limit : h.limit ≡ W = inv.3 ∙ new.limit in
+    let limit : h.limit ≡ W = inv.limit ∙ new.limit in
     let standing : Stands M v (run M W calls bare).1 (advances M W calls start).1.standing = subst (λ (gr : Graph). Stands M v gr (advances M W calls start).1.standing) graph_is stands in
     record {
       answered = told;

@@ -1,5 +1,5 @@
 use Rattle.std.proofs.Common.{◌≡◌, ℕ, ◌+◌, ◌<◌, List, [], ◌∷◌, ◌++◌, length, get_or, take, sym, refl, ap, ◌∙◌, subst, ap₂, arith}
-use Rattle.std.proofs.lemmas.List.{take_more, take_more_set, drop-set-lt, length-set}
+use Rattle.std.proofs.lemmas.List.{take_more, take_more_set, drop-set-lt, length-set, get_or-take, length-take-le}
 use Rattle.scheme.specs.Meaning.{Meaning}
 use Rattle.graph.specs.Advance.{State}
 use Rattle.heap.specs.Views.{view}
@@ -9,9 +9,6 @@ use Rattle.clib.specs.Forms.{answers}
 use Rattle.clib.specs.Turns.{StandsAt, Answers}
 use Rattle.clib.proofs.Runs.{told_push, one_more}
 use Rattle.clib.proofs.lists.give_list.Goals as goal
-
-pub loop-i-init : goal.loop-i-init
-loop-i-init g c = (λ st s. refl, λ st s. s, λ st s. refl, refl, refl, λ k h. refl, refl)
 
 pub loop-i-preserved : goal.loop-i-preserved
 loop-i-preserved g c =
@@ -25,23 +22,28 @@ loop-i-preserved g c =
     let r = c.give_words.result in
     let v = view {S = g.row.S.Denot} g.M.Memory.words c.loop-i.heap in
     let v' = view {S = g.row.S.Denot} g.M.Memory.words c.give_words.new.heap in
-    let told : Answers m w v v' r = subst (λ s. Answers (g.S.Scheme.meaning s) w v v' r) inv.4 c.give_words.ensures.answers in
-    let among : i < length calls = omega (arith, c.loop-i-test.true, c.min-given.ensures) in
-    let room : i < length c.loop-i.answers = omega (arith, c.loop-i-test.true, c.min-given.ensures, inv.6) in
+    let given = c.min-given.result in
+    let long : length (take given calls) ≡ given = length-take-le given calls (omega (arith, c.min-given.ensures)) in
+    let here : i < given = omega (arith, c.loop-i-test.true, long) in
+    let told : Answers m w v v' r =
+    subst (λ x. Answers m x v v' r) (get_or-take given calls i none here) (subst (λ s. Answers (g.S.Scheme.meaning s) (get_or (take given calls) i none) v v' r) inv.scheme c.give_words.ensures.answers) in
+    let among : i < length calls = omega (arith, here, c.min-given.ensures) in
+    let room : i < length c.loop-i.answers = omega (arith, here, c.min-given.ensures, inv.room) in
     let more : take (i + 1) calls ≡ take i calls ++ (w ∷ []) = take_more calls i none among in
-    let next = λ (st : State) (s : StandsAt m (view {S = g.row.S.Denot} g.M.Memory.words c.args.heap.now) st). one_more m W (take i calls) w v v' r st inv.3 (inv.1 st s) told in (
-      λ st s.
+    let next = λ (st : State) (s : StandsAt m (view {S = g.row.S.Denot} g.M.Memory.words c.args.heap.now) st). one_more m W (take i calls) w v v' r st inv.limit (inv.stands st s) told in
+    record {
+      told = λ st s.
           take_more_set c.loop-i.answers i r room
-          ∙ ap₂ {C = List Answer} (λ (l : List Answer) (a : Answer). l ++ (a ∷ [])) (inv.0 st s) (next st s).0
+          ∙ ap₂ {C = List Answer} (λ (l : List Answer) (a : Answer). l ++ (a ∷ [])) (inv.told st s) (next st s).0
           ∙ sym (told_push m W (take i calls) w st)
-          ∙ ap (λ (ws : List CallWords). (answers m W ws st).0) (sym more),
-      λ st s. subst (λ (ws : List CallWords). StandsAt m v' (answers m W ws st).1) (sym more) (next st s).1,
-      λ st s. (next st s).2 ∙ inv.2 st s,
-      c.give_words.ensures.answers.limit ∙ inv.3,
-      c.give_words.ensures.scheme ∙ inv.4,
-      λ k h. drop-set-lt k c.loop-i.answers i r (omega arith) ∙ inv.5 k (omega arith),
-      length-set c.loop-i.answers i r ∙ inv.6,
-    )
+          ∙ ap (λ (ws : List CallWords). (answers m W ws st).0) (sym more);
+      stands = λ st s. subst (λ (ws : List CallWords). StandsAt m v' (answers m W ws st).1) (sym more) (next st s).1;
+      later = λ st s. (next st s).2 ∙ inv.later st s;
+      limit = c.give_words.ensures.answers.limit ∙ inv.limit;
+      scheme = c.give_words.ensures.scheme ∙ inv.scheme;
+      behind = λ k h. drop-set-lt k c.loop-i.answers i r (omega arith) ∙ inv.behind k (omega arith);
+      room = length-set c.loop-i.answers i r ∙ inv.room;
+    }
 
 pub returns : goal.returns
 returns g c =
@@ -49,15 +51,16 @@ returns g c =
     let m : Meaning = g.S.Scheme.meaning c.args.heap.now.scheme in
     let W : ℕ = c.args.heap.now.bounds.limit in
     let calls = c.args.calls.now in
-    let end : c.loop-i.i ≡ c.min-given.result = omega (arith, c.loop-i.auto.i-end, c.loop-i-test.false) in
+    let long : length (take c.min-given.result calls) ≡ c.min-given.result = length-take-le c.min-given.result calls (omega (arith, c.min-given.ensures)) in
+    let end : c.loop-i.i ≡ c.min-given.result = omega (arith, long, c.loop-i-test.false) in
     record {
       gives = record {
         count = c.min-given.ensures;
-        told = λ st s. subst (λ (n : ℕ). take n c.loop-i.answers ≡ (answers m W (take n calls) st).0) end (inv.0 st s);
-        stands = λ st s. subst (λ (n : ℕ). StandsAt m (view {S = g.row.S.Denot} g.M.Memory.words c.loop-i.heap) (answers m W (take n calls) st).1) end (inv.1 st s);
-        later = inv.2;
-        limit = inv.3;
-        behind = inv.5 c.min-given.result (omega (arith, end));
+        told = λ st s. subst (λ (n : ℕ). take n c.loop-i.answers ≡ (answers m W (take n calls) st).0) end (inv.told st s);
+        stands = λ st s. subst (λ (n : ℕ). StandsAt m (view {S = g.row.S.Denot} g.M.Memory.words c.loop-i.heap) (answers m W (take n calls) st).1) end (inv.stands st s);
+        later = inv.later;
+        limit = inv.limit;
+        behind = inv.behind c.min-given.result (omega (arith, end));
       };
-      scheme = inv.4;
+      scheme = inv.scheme;
     }

@@ -15,10 +15,12 @@ invariant-loop-i g l =
     let after : View = view g.M.Memory.words l.heap in
     let W : ℕ = l.initial.heap.limit in
     let so_far : List CallWords = take l.i l.calls in
-    ((st : State) → StandsAt m before st → take l.i l.answers ≡ (answers m W so_far st).0)
-    × ((st : State) → StandsAt m before st → StandsAt m after (answers m W so_far st).1)
-    × ((st : State) → StandsAt m before st → drop W after.words ≡ drop W before.words)
-    × (l.heap.limit ≡ W)
-    × (l.heap.scheme ≡ l.initial.heap.scheme)
-    × ((k : ℕ) → l.i ≤ k → drop k l.answers ≡ drop k l.initial.answers)
-    × (length l.answers ≡ length l.initial.answers)
+    record {
+      told : (st : State) → StandsAt m before st → take l.i l.answers ≡ (answers m W so_far st).0;
+      stands : (st : State) → StandsAt m before st → StandsAt m after (answers m W so_far st).1;
+      later : (st : State) → StandsAt m before st → drop W after.words ≡ drop W before.words;
+      limit : l.heap.limit ≡ W;
+      scheme : l.heap.scheme ≡ l.initial.heap.scheme;
+      behind : (k : ℕ) → l.i ≤ k → drop k l.answers ≡ drop k l.initial.answers;
+      room : length l.answers ≡ length l.initial.answers;
+    }
