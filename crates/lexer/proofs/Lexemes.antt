@@ -1,17 +1,9 @@
 -- What a value is, from its bytes.
 use Rattle.std.proofs.Common.{◌≡◌, ℕ, Bool, true, false, cond, eqb, List, [], ◌∷◌, length, Some, Option, sym, refl, ap, ◌∙◌, arith, Bor}
-use Rattle.std.specs.Int.{IsInRange}
 use Rattle.std.specs.Char.{is_ascii_digit}
-use Rattle.std.proofs.lemmas.Bool.{eqb-true, and_from, le-leb}
-use Rattle.std.proofs.lemmas.Bool.Decides.{nat_tests}
+use Rattle.std.proofs.lemmas.Bool.{eqb-true}
 use Rattle.lexer.specs.Tokens.{word, number, behind_minus, lexeme, spelt, left_in}
 use Rattle.lexer.proofs.Cuts.{pieces-some}
-
-pub digit : (b : ℕ) → IsInRange 48 57 b → is_ascii_digit b ≡ true
-digit b h = and_from _ _ (le-leb 48 b h.0) (le-leb b 57 h.1)
-
-pub other : (b : ℕ) → (IsInRange 48 57 b → ⊥) → is_ascii_digit b ≡ false
-other b h = grind (arith, nat_tests)
 
 -- no byte of a value is lost
 spelt-behind : (xs : List ℕ) → spelt (behind_minus xs) ≡ 45 ∷ xs
