@@ -67,8 +67,7 @@ pub fn output_of(heap: Global, reports: &[Report]) -> Result<String, AllocError>
 {
     let mut text = String::from_str(heap, "line state number at\n")?;
     for report in reports {
-        let line = format!(in heap; "{report}\n")?;
-        text.push_str(line.as_str())?;
+        writeln!(text, "{report}")?;
     }
     Ok(text)
 }
