@@ -14,6 +14,9 @@ pub enum Argument {
 }
 
 impl Argument {
+    /// All four, in their order.
+    pub const ALL: [Argument; 4] = [Argument::A, Argument::B, Argument::C, Argument::D];
+
     /// 1 to 4 for a to d, wherever the column stands on the line.
     pub fn position(self) -> u8
         ensures { result ≡ argument_position self }
@@ -26,6 +29,9 @@ impl Argument {
         }
     }
 }
+
+/// More bytes of input than this are no load.
+pub const LONGEST_INPUT: usize = 65_536;
 
 /// What is wrong with the load text.
 #[derive(Clone, Copy, PartialEq, Eq, Debug)]

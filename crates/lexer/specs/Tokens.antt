@@ -1,5 +1,5 @@
 -- What a value is: a word, a number with or without a minus, or a dash.
-use Rattle.std.specs.Prelude.{ℕ, Bool, true, false, cond, List, [], ◌∷◌, Some, None, Option, ◌==◌}
+use Rattle.std.specs.Prelude.{ℕ, Bool, true, false, cond, List, [], ◌∷◌, map, Some, None, Option, ◌==◌}
 use Rattle.std.specs.Borrow.{Bor}
 use Rattle.std.specs.Char.{is_ascii_digit}
 use Rattle.lexer.specs.declared.tokens.Token.{Token}
@@ -46,4 +46,4 @@ left l = left_in l.rest
 
 -- the five tokens of a line, in its order
 abbrev pub held : Tokens → List Lexeme
-held t = said t.first ∷ said t.second ∷ said t.third ∷ said t.fourth ∷ said t.fifth ∷ []
+held t = map said t.values

@@ -1,14 +1,14 @@
 // The five values of a line, each a token that borrows its part of the line.
 ghost use Rattle.std.specs.Prelude.{◌≡◌, ℕ, ◌<◌, ◌≤◌, List, [], ◌∷◌, ◌++◌, map, length, MatchResult, ◌≢◌, slice_index_or};
 ghost use Rattle.lexer.specs.Pieces.{pieces, Full, Shaped};
-ghost use Rattle.lexer.specs.Tokens.{Lexeme, word, lexeme, spelt, said, left, held};
+ghost use Rattle.lexer.specs.Tokens.{Lexeme, word, lexeme, spelt, said, left_in, left, held};
 ghost use Rattle.faults.specs.declared.TextFault.TheVariants.{NoShape};
 
 use crate::lines::split_once;
 use faults::TextFault;
 
 /// A value of a line, as it was read.
-#[derive(Clone, Copy)]
+#[derive(Clone, Copy, PartialEq, Eq, Debug)]
 pub enum Token<'a> {
     Word(&'a [u8]),
     /// Its digits are not looked at yet: a column may refuse them.
@@ -34,6 +34,16 @@ pub fn token_of<'a>(value: &'a [u8]) -> Token<'a>
     }
 }
 
+// The value before the first space, and what is behind that space, where there is one.
+fn first_value<'a>(text: &'a [u8]) -> (&'a [u8], Option<&'a [u8]>)
+    ensures { pieces text.now ≡ result.0.now ∷ left_in result.1 }
+{
+    match split_once(text, b' ') {
+        Some((value, after)) => (value, Some(after)),
+        None => (text, None),
+    }
+}
+
 /// Reads a line value by value. `rest` is None once the last value is read.
 #[derive(Drop)]
 pub struct Lexer<'a> {
@@ -51,19 +61,8 @@ impl<'a> Lexer<'a> {
     pub fn value(&mut self) -> Result<Token<'a>, TextFault>
         ensures { MatchResult result (λ t. (left self.old ≡ spelt (said t) ∷ left self.new) × (0 < length (spelt (said t))) × (said t ≡ lexeme (spelt (said t)))) (λ f. (f ≡ NoShape) × (1 ≤ length (left self.old) → Full (left self.old) → ⊥)) }
     {
-        let Some(rest) = self.rest else {
-            return Err(TextFault::NoShape);
-        };
-        let value = match split_once(rest, b' ') {
-            Some((value, after)) => {
-                self.rest = Some(after);
-                value
-            }
-            None => {
-                self.rest = None;
-                rest
-            }
-        };
+        let (value, after) = first_value(self.rest.ok_or(TextFault::NoShape)?);
+        self.rest = after;
         if value.is_empty() {
             return Err(TextFault::NoShape);
         }
@@ -82,13 +81,9 @@ impl<'a> Lexer<'a> {
 }
 
 /// The five values of a line, in its order.
-#[derive(Clone, Copy)]
+#[derive(Clone, Copy, Debug)]
 pub struct Tokens<'a> {
-    pub first: Token<'a>,
-    pub second: Token<'a>,
-    pub third: Token<'a>,
-    pub fourth: Token<'a>,
-    pub fifth: Token<'a>,
+    pub values: [Token<'a>; 5],
 }
 
 /// The longest line, its newline not counted.
@@ -101,33 +96,22 @@ pub fn tokens_of<'a>(line: &'a [u8]) -> Result<Tokens<'a>, TextFault>
         return Err(TextFault::NoShape);
     }
     let mut lexer = Lexer::over(line);
-    let first = lexer.value()?;
-    let second = lexer.value()?;
-    let third = lexer.value()?;
-    let fourth = lexer.value()?;
-    let fifth = lexer.value()?;
+    let values = [
+        lexer.value()?,
+        lexer.value()?,
+        lexer.value()?,
+        lexer.value()?,
+        lexer.value()?,
+    ];
     lexer.end()?;
-    Ok(Tokens {
-        first,
-        second,
-        third,
-        fourth,
-        fifth,
-    })
+    Ok(Tokens { values })
 }
 
 impl<'a> Tokens<'a> {
     /// The value at a place of the line, from 0; past the fifth, a word without a byte.
-    pub fn at(self, place: u8) -> Token<'a>
+    pub fn at(self, place: usize) -> Token<'a>
         ensures { said result ≡ slice_index_or (held self.entry) place (word []) }
     {
-        match place {
-            0 => self.first,
-            1 => self.second,
-            2 => self.third,
-            3 => self.fourth,
-            4 => self.fifth,
-            _ => Token::Word(b""),
-        }
+        self.values.get(place).copied().unwrap_or(Token::Word(b""))
     }
 }

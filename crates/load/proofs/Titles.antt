@@ -1,11 +1,13 @@
 -- The places of names.
-use Rattle.std.proofs.Common.{◌≡◌, ℕ, zero, suc, ◌+◌, ◌<◌, ◌≤◌, Bool, true, false, cond, List, [], ◌∷◌, map, length, get_or, drop, Some, None, Ok, Err, codes, Option, Result, sym, refl, ap, ◌∙◌, subst, arith, MatchResult}
+use Rattle.std.proofs.Common.{◌≡◌, ℕ, zero, suc, ◌+◌, ◌<◌, Bool, true, false, cond, List, [], ◌∷◌, map, length, get_or, Some, None, Ok, Err, codes, Option, Result, sym, refl, ap, ◌∙◌, subst, arith, MatchResult}
 use Rattle.std.specs.Option.{ok_or}
 use Rattle.std.proofs.lemmas.Slice.Eq.{bytes_eq-Decides}
-use Rattle.std.proofs.lemmas.List.{at_drop_more, at_drop_all}
+use Rattle.std.specs.List.{position_from, position}
+use Rattle.std.proofs.lemmas.Iterator.Adapters.{position_from-zero}
 use Rattle.std.proofs.lemmas.Bool.{cond-true, cond-false, both_ways}
 use Rattle.lexer.specs.Pieces.{pieces, Shaped, shaped}
-use Rattle.lexer.specs.Tokens.{Lexeme, word, number, dash, lexeme, spelt}
+use Rattle.lexer.specs.Tokens.{Lexeme, word, number, dash, lexeme, spelt, said}
+use Rattle.lexer.specs.declared.tokens.Token.{Token}
 use Rattle.faults.specs.declared.TextFault.{TextFault}
 use Rattle.faults.specs.declared.TextFault.TheVariants.{NoNames}
 use Rattle.lexer.proofs.Lexemes.{spelt-lexeme}
@@ -15,11 +17,11 @@ use Rattle.load.specs.Steps.{and_then}
 use Rattle.load.proofs.Shapes.{decides-shaped, not-from}
 
 -- a place found behind the first i
-abbrev pub further : ℕ → Option ℕ → Option ℕ
+abbrev further : ℕ → Option ℕ → Option ℕ
 further i None = None
 further i (Some k) = Some (i + k)
 
-pub further-none : (o : Option ℕ) → further 0 o ≡ o
+further-none : (o : Option ℕ) → further 0 o ≡ o
 further-none None = refl
 further-none (Some k) = ap Some (omega arith)
 
@@ -27,19 +29,17 @@ further-later : (i : ℕ) (o : Option ℕ) → further i (later o) ≡ further (
 further-later i None = refl
 further-later i (Some k) = ap Some (omega arith)
 
-module _ (n : List ℕ) (vs : List Lexeme) (i : ℕ) where
-  module _ (v : Lexeme) (within : i < length vs) (at : v ≡ get_or vs i (word [])) where
-    step : further i (place_in n (drop i vs)) ≡ further i (cond (is_word n v) (Some 0) (later (place_in n (drop (i + 1) vs))))
-    step = ap (further i) (at_drop_more (place_in n) vs i (word []) within ∙ ap (λ l. cond (is_word n l) (Some 0) (later (place_in n (drop (i + 1) vs)))) (sym at))
+place_by : (b : Bool) (i : ℕ) (r o : Option ℕ) → r ≡ further (i + 1) o → cond b (Some i) r ≡ further i (cond b (Some 0) (later o))
+place_by true i r o e = ap Some (omega arith)
+place_by false i r o e = e ∙ sym (further-later i o)
 
-    pub found : is_word n v ≡ true → further i (place_in n (drop i vs)) ≡ place_in n vs → Some i ≡ place_in n vs
-    found t so = ap Some (omega arith) ∙ ap (further i) (sym (cond-true _ (Some 0) (later (place_in n (drop (i + 1) vs))) t)) ∙ sym step ∙ so
+place_from : (n : List ℕ) (i : ℕ) (ts : List Token) → position_from (λ t. is_word n (said t)) i ts ≡ further i (place_in n (map said ts))
+place_from n i [] = refl
+place_from n i (t ∷ ts) = place_by (is_word n (said t)) i _ _ (place_from n (i + 1) ts)
 
-    pub passed : is_word n v ≡ false → further i (place_in n (drop i vs)) ≡ place_in n vs → further (i + 1) (place_in n (drop (i + 1) vs)) ≡ place_in n vs
-    passed f so = sym (further-later i (place_in n (drop (i + 1) vs))) ∙ ap (further i) (sym (cond-false _ (Some 0) (later (place_in n (drop (i + 1) vs))) f)) ∙ sym step ∙ so
-
-  pub none_left : length vs ≤ i → further i (place_in n (drop i vs)) ≡ place_in n vs → None ≡ place_in n vs
-  none_left past so = ap (further i) (sym (at_drop_all (place_in n) vs i past)) ∙ so
+-- the first place, as `position` gives it
+pub placed : (n : List ℕ) (ts : List Token) → position (λ t. is_word n (said t)) ts ≡ place_in n (map said ts)
+placed n ts = position_from-zero (λ t. is_word n (said t)) ts ∙ place_from n 0 ts ∙ further-none (place_in n (map said ts))
 
 -- a word of the line is that name
 word-true : (n : List ℕ) (l : Lexeme) → is_word n l ≡ true → spelt l ≡ n

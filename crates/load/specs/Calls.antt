@@ -1,5 +1,5 @@
 -- The call that a line gives.
-use Rattle.std.specs.Prelude.{ℕ, cond, List, [], map, ℤ, None, Ok, Err, Option, Result, slice_index_or}
+use Rattle.std.specs.Prelude.{ℕ, zero, suc, cond, List, [], ◌∷◌, map, ℤ, None, Ok, Err, Option, Result, slice_index, slice_index_or}
 use Rattle.std.specs.Option.{ok_or}
 use Rattle.graph.specs.declared.Call.{Call}
 use Rattle.graph.specs.declared.Call.TheVariants as calls
@@ -26,40 +26,45 @@ whole v x = ok_or (signed v) (NoValue x)
 abbrev pub spare : Lexeme → Argument → Result (Unit {0}) TextFault
 spare v x = ok_or (unused v) (NoValue x)
 
-abbrev pub none : (a b c d : Lexeme) → Result (Unit {0}) TextFault
-none a b c d = and_then (spare a A) (λ _. and_then (spare b B) (λ _. and_then (spare c C) (λ _. spare d D)))
+-- the value under each name
+abbrev pub value_under : (a b c d : Lexeme) → Argument → Lexeme
+value_under a b c d A = a
+value_under a b c d B = b
+value_under a b c d C = c
+value_under a b c d D = d
 
-abbrev pub one : (a b c d : Lexeme) → Result ℕ TextFault
-one a b c d = and_then (arg a A) (λ i. and_then (spare b B) (λ _. and_then (spare c C) (λ _. and_then (spare d D) (λ _. Ok i))))
+abbrev pub under_names : (a b c d : Lexeme) → List (Lexeme × Argument)
+under_names a b c d = (a, A) ∷ (b, B) ∷ (c, C) ∷ (d, D) ∷ []
 
-abbrev pub two : (a b c d : Lexeme) → Result (ℕ × ℕ) TextFault
-two a b c d = and_then (arg a A) (λ i. and_then (arg b B) (λ j. and_then (spare c C) (λ _. and_then (spare d D) (λ _. Ok (i, j)))))
+abbrev pub spares : List (Lexeme × Argument) → Result (Unit {0}) TextFault
+spares [] = Ok tt
+spares (x ∷ xs) = and_then (spare x.0 x.1) (λ _. spares xs)
 
-abbrev pub three : (a b c d : Lexeme) → Result (ℕ × ℕ × ℕ) TextFault
-three a b c d = and_then (arg a A) (λ i. and_then (arg b B) (λ j. and_then (arg c C) (λ k. and_then (spare d D) (λ _. Ok (i, j, k)))))
-
-abbrev pub four : (a b c d : Lexeme) → Result (ℕ × ℕ × ℕ × ℕ) TextFault
-four a b c d = and_then (arg a A) (λ i. and_then (arg b B) (λ j. and_then (arg c C) (λ k. and_then (arg d D) (λ l. Ok (i, j, k, l)))))
+-- the numbers of the first n columns; the call does not use those behind
+abbrev pub numbers : ℕ → List (Lexeme × Argument) → Result (List ℕ) TextFault
+numbers zero xs = and_then (spares xs) (λ _. Ok [])
+numbers (suc n) [] = Ok []
+numbers (suc n) (x ∷ xs) = and_then (arg x.0 x.1) (λ i. and_then (numbers n xs) (λ is. Ok (i ∷ is)))
 
 abbrev pub call : Word → (a b c d : Lexeme) → Result Call TextFault
 call words.Num a b c d = and_then (arg a A) (λ i. and_then (whole b B) (λ n. and_then (spare c C) (λ _. and_then (spare d D) (λ _. Ok (calls.Num i n)))))
-call words.Clear a b c d = and_then (one a b c d) (λ i. Ok (calls.Clear i))
-call words.Copy a b c d = and_then (two a b c d) (λ x. Ok (calls.Copy x.0 x.1))
-call words.Map a b c d = and_then (four a b c d) (λ x. Ok (calls.Map x.0 x.1 x.2 x.3))
-call words.Layout a b c d = and_then (three a b c d) (λ x. Ok (calls.Layout x.0 x.1 x.2))
-call words.Record a b c d = and_then (two a b c d) (λ x. Ok (calls.Record x.0 x.1))
-call words.Load a b c d = and_then (three a b c d) (λ x. Ok (calls.Load x.0 x.1 x.2))
-call words.Save a b c d = and_then (three a b c d) (λ x. Ok (calls.Save x.0 x.1 x.2))
-call words.RawLoad a b c d = and_then (two a b c d) (λ x. Ok (calls.RawLoad x.0 x.1))
-call words.RawSave a b c d = and_then (three a b c d) (λ x. Ok (calls.RawSave x.0 x.1 x.2))
-call words.Kind a b c d = and_then (one a b c d) (λ i. Ok (calls.Kind i))
-call words.Value a b c d = and_then (one a b c d) (λ i. Ok (calls.Value i))
-call words.Same a b c d = and_then (two a b c d) (λ x. Ok (calls.Same x.0 x.1))
-call words.Part a b c d = and_then (three a b c d) (λ x. Ok (calls.Part x.0 x.1 x.2))
-call words.Figure a b c d = and_then (one a b c d) (λ i. Ok (calls.Figure i))
-call words.Raws a b c d = and_then (one a b c d) (λ i. Ok (calls.Raws i))
-call words.Collect a b c d = and_then (none a b c d) (λ _. Ok calls.Collect)
-call words.Fill a b c d = and_then (none a b c d) (λ _. Ok calls.Fill)
+call words.Clear a b c d = and_then (numbers 1 (under_names a b c d)) (λ ns. Ok (calls.Clear (slice_index ns 0)))
+call words.Copy a b c d = and_then (numbers 2 (under_names a b c d)) (λ ns. Ok (calls.Copy (slice_index ns 0) (slice_index ns 1)))
+call words.Map a b c d = and_then (numbers 4 (under_names a b c d)) (λ ns. Ok (calls.Map (slice_index ns 0) (slice_index ns 1) (slice_index ns 2) (slice_index ns 3)))
+call words.Layout a b c d = and_then (numbers 3 (under_names a b c d)) (λ ns. Ok (calls.Layout (slice_index ns 0) (slice_index ns 1) (slice_index ns 2)))
+call words.Record a b c d = and_then (numbers 2 (under_names a b c d)) (λ ns. Ok (calls.Record (slice_index ns 0) (slice_index ns 1)))
+call words.Load a b c d = and_then (numbers 3 (under_names a b c d)) (λ ns. Ok (calls.Load (slice_index ns 0) (slice_index ns 1) (slice_index ns 2)))
+call words.Save a b c d = and_then (numbers 3 (under_names a b c d)) (λ ns. Ok (calls.Save (slice_index ns 0) (slice_index ns 1) (slice_index ns 2)))
+call words.RawLoad a b c d = and_then (numbers 2 (under_names a b c d)) (λ ns. Ok (calls.RawLoad (slice_index ns 0) (slice_index ns 1)))
+call words.RawSave a b c d = and_then (numbers 3 (under_names a b c d)) (λ ns. Ok (calls.RawSave (slice_index ns 0) (slice_index ns 1) (slice_index ns 2)))
+call words.Kind a b c d = and_then (numbers 1 (under_names a b c d)) (λ ns. Ok (calls.Kind (slice_index ns 0)))
+call words.Value a b c d = and_then (numbers 1 (under_names a b c d)) (λ ns. Ok (calls.Value (slice_index ns 0)))
+call words.Same a b c d = and_then (numbers 2 (under_names a b c d)) (λ ns. Ok (calls.Same (slice_index ns 0) (slice_index ns 1)))
+call words.Part a b c d = and_then (numbers 3 (under_names a b c d)) (λ ns. Ok (calls.Part (slice_index ns 0) (slice_index ns 1) (slice_index ns 2)))
+call words.Figure a b c d = and_then (numbers 1 (under_names a b c d)) (λ ns. Ok (calls.Figure (slice_index ns 0)))
+call words.Raws a b c d = and_then (numbers 1 (under_names a b c d)) (λ ns. Ok (calls.Raws (slice_index ns 0)))
+call words.Collect a b c d = and_then (numbers 0 (under_names a b c d)) (λ _. Ok calls.Collect)
+call words.Fill a b c d = and_then (numbers 0 (under_names a b c d)) (λ _. Ok calls.Fill)
 
 -- the word of the table that a value is
 abbrev pub word_said : Lexeme → Option Word

@@ -1,9 +1,9 @@
 // The call that a line gives.
-ghost use Rattle.std.specs.Prelude.{◌≡◌};
+ghost use Rattle.std.specs.Prelude.{◌≡◌, ◌≤◌};
 ghost use Rattle.std.specs.Option.{ok_or};
 ghost use Rattle.lexer.specs.Tokens.{said};
 ghost use Rattle.faults.specs.declared.TextFault.TheVariants.{NoWord};
-ghost use Rattle.load.specs.Calls.{word_said, none, one, two, three, four, call, parsed};
+ghost use Rattle.load.specs.Calls.{word_said, value_under, under_names, numbers, call, parsed};
 
 use crate::names::Columns;
 use faults::{Argument, TextFault};
@@ -21,53 +21,34 @@ pub struct Arguments<'a> {
     pub d: Token<'a>,
 }
 
-fn none_of(arguments: Arguments<'_>) -> Result<(), TextFault>
-    ensures { result ≡ none (said arguments.entry.a) (said arguments.entry.b) (said arguments.entry.c) (said arguments.entry.d) }
-{
-    unused_of(arguments.a, Argument::A)?;
-    unused_of(arguments.b, Argument::B)?;
-    unused_of(arguments.c, Argument::C)?;
-    unused_of(arguments.d, Argument::D)
-}
+impl<'a> Arguments<'a> {
+    fn under(self, column: Argument) -> Token<'a>
+        ensures { said result ≡ value_under (said self.entry.a) (said self.entry.b) (said self.entry.c) (said self.entry.d) column }
+    {
+        match column {
+            Argument::A => self.a,
+            Argument::B => self.b,
+            Argument::C => self.c,
+            Argument::D => self.d,
+        }
+    }
 
-fn one_of(arguments: Arguments<'_>) -> Result<u32, TextFault>
-    ensures { result ≡ one (said arguments.entry.a) (said arguments.entry.b) (said arguments.entry.c) (said arguments.entry.d) }
-{
-    let a = plain_of(arguments.a, Argument::A)?;
-    unused_of(arguments.b, Argument::B)?;
-    unused_of(arguments.c, Argument::C)?;
-    unused_of(arguments.d, Argument::D)?;
-    Ok(a)
-}
-
-fn two_of(arguments: Arguments<'_>) -> Result<(u32, u32), TextFault>
-    ensures { result ≡ two (said arguments.entry.a) (said arguments.entry.b) (said arguments.entry.c) (said arguments.entry.d) }
-{
-    let a = plain_of(arguments.a, Argument::A)?;
-    let b = plain_of(arguments.b, Argument::B)?;
-    unused_of(arguments.c, Argument::C)?;
-    unused_of(arguments.d, Argument::D)?;
-    Ok((a, b))
-}
-
-fn three_of(arguments: Arguments<'_>) -> Result<(u32, u32, u32), TextFault>
-    ensures { result ≡ three (said arguments.entry.a) (said arguments.entry.b) (said arguments.entry.c) (said arguments.entry.d) }
-{
-    let a = plain_of(arguments.a, Argument::A)?;
-    let b = plain_of(arguments.b, Argument::B)?;
-    let c = plain_of(arguments.c, Argument::C)?;
-    unused_of(arguments.d, Argument::D)?;
-    Ok((a, b, c))
-}
-
-fn four_of(arguments: Arguments<'_>) -> Result<(u32, u32, u32, u32), TextFault>
-    ensures { result ≡ four (said arguments.entry.a) (said arguments.entry.b) (said arguments.entry.c) (said arguments.entry.d) }
-{
-    let a = plain_of(arguments.a, Argument::A)?;
-    let b = plain_of(arguments.b, Argument::B)?;
-    let c = plain_of(arguments.c, Argument::C)?;
-    let d = plain_of(arguments.d, Argument::D)?;
-    Ok((a, b, c, d))
+    // The numbers under the first N columns; the call does not use those behind.
+    fn numbers<const N: usize>(self) -> Result<[u32; N], TextFault>
+        requires { N ≤ 4 }
+        ensures { result ≡ numbers N (under_names (said self.entry.a) (said self.entry.b) (said self.entry.c) (said self.entry.d)) }
+    {
+        let mut numbers = [0; N];
+        for (place, column) in Argument::ALL.iter().enumerate() {
+            let token = self.under(*column);
+            if place < N {
+                numbers[place] = plain_of(token, *column)?;
+            } else {
+                unused_of(token, *column)?;
+            }
+        }
+        Ok(numbers)
+    }
 }
 
 /// The call of a word and its arguments, which fill a to d from the left.
@@ -83,15 +64,15 @@ pub fn call_of(word: Word, arguments: Arguments<'_>) -> Result<Call, TextFault>
             Ok(Call::Num { handle, number })
         }
         Word::Clear => {
-            let handle = one_of(arguments)?;
+            let [handle] = arguments.numbers::<1>()?;
             Ok(Call::Clear { handle })
         }
         Word::Copy => {
-            let (target, source) = two_of(arguments)?;
+            let [target, source] = arguments.numbers::<2>()?;
             Ok(Call::Copy { target, source })
         }
         Word::Map => {
-            let (target, rule, name, parent) = four_of(arguments)?;
+            let [target, rule, name, parent] = arguments.numbers::<4>()?;
             Ok(Call::Map {
                 target,
                 rule,
@@ -100,7 +81,7 @@ pub fn call_of(word: Word, arguments: Arguments<'_>) -> Result<Call, TextFault>
             })
         }
         Word::Layout => {
-            let (target, fields, map) = three_of(arguments)?;
+            let [target, fields, map] = arguments.numbers::<3>()?;
             Ok(Call::Layout {
                 target,
                 fields,
@@ -108,11 +89,11 @@ pub fn call_of(word: Word, arguments: Arguments<'_>) -> Result<Call, TextFault>
             })
         }
         Word::Record => {
-            let (target, layout) = two_of(arguments)?;
+            let [target, layout] = arguments.numbers::<2>()?;
             Ok(Call::Record { target, layout })
         }
         Word::Load => {
-            let (target, record, field) = three_of(arguments)?;
+            let [target, record, field] = arguments.numbers::<3>()?;
             Ok(Call::Load {
                 target,
                 record,
@@ -120,7 +101,7 @@ pub fn call_of(word: Word, arguments: Arguments<'_>) -> Result<Call, TextFault>
             })
         }
         Word::Save => {
-            let (record, field, source) = three_of(arguments)?;
+            let [record, field, source] = arguments.numbers::<3>()?;
             Ok(Call::Save {
                 record,
                 field,
@@ -128,11 +109,11 @@ pub fn call_of(word: Word, arguments: Arguments<'_>) -> Result<Call, TextFault>
             })
         }
         Word::RawLoad => {
-            let (record, field) = two_of(arguments)?;
+            let [record, field] = arguments.numbers::<2>()?;
             Ok(Call::RawLoad { record, field })
         }
         Word::RawSave => {
-            let (record, field, word) = three_of(arguments)?;
+            let [record, field, word] = arguments.numbers::<3>()?;
             Ok(Call::RawSave {
                 record,
                 field,
@@ -140,19 +121,19 @@ pub fn call_of(word: Word, arguments: Arguments<'_>) -> Result<Call, TextFault>
             })
         }
         Word::Kind => {
-            let handle = one_of(arguments)?;
+            let [handle] = arguments.numbers::<1>()?;
             Ok(Call::Kind { handle })
         }
         Word::Value => {
-            let handle = one_of(arguments)?;
+            let [handle] = arguments.numbers::<1>()?;
             Ok(Call::Value { handle })
         }
         Word::Same => {
-            let (first, second) = two_of(arguments)?;
+            let [first, second] = arguments.numbers::<2>()?;
             Ok(Call::Same { first, second })
         }
         Word::Part => {
-            let (target, object, part) = three_of(arguments)?;
+            let [target, object, part] = arguments.numbers::<3>()?;
             Ok(Call::Part {
                 target,
                 object,
@@ -160,19 +141,19 @@ pub fn call_of(word: Word, arguments: Arguments<'_>) -> Result<Call, TextFault>
             })
         }
         Word::Figure => {
-            let handle = one_of(arguments)?;
+            let [handle] = arguments.numbers::<1>()?;
             Ok(Call::Figure { handle })
         }
         Word::Raws => {
-            let handle = one_of(arguments)?;
+            let [handle] = arguments.numbers::<1>()?;
             Ok(Call::Raws { handle })
         }
         Word::Collect => {
-            none_of(arguments)?;
+            let [] = arguments.numbers::<0>()?;
             Ok(Call::Collect)
         }
         Word::Fill => {
-            none_of(arguments)?;
+            let [] = arguments.numbers::<0>()?;
             Ok(Call::Fill)
         }
     }
@@ -181,12 +162,9 @@ pub fn call_of(word: Word, arguments: Arguments<'_>) -> Result<Call, TextFault>
 fn called(token: Token<'_>) -> Result<Word, TextFault>
     ensures { result ≡ ok_or (word_said (said token.entry)) NoWord }
 {
-    let Token::Word(bytes) = token else {
-        return Err(TextFault::NoWord);
-    };
-    match word_of(bytes) {
-        Some(word) => Ok(word),
-        None => Err(TextFault::NoWord),
+    match token {
+        Token::Word(bytes) => word_of(bytes).ok_or(TextFault::NoWord),
+        _ => Err(TextFault::NoWord),
     }
 }
 

@@ -8,34 +8,30 @@ use faults::TextFault;
 use lexer::tokens::{Token, Tokens, tokens_of};
 
 /// The place of each name, from 0.
-#[derive(Clone, Copy)]
+#[derive(Clone, Copy, PartialEq, Eq, Debug)]
 pub struct Columns {
-    pub call: u8,
-    pub a: u8,
-    pub b: u8,
-    pub c: u8,
-    pub d: u8,
+    pub call: usize,
+    pub a: usize,
+    pub b: usize,
+    pub c: usize,
+    pub d: usize,
 }
 
 fn is_word(token: Token<'_>, name: &[u8]) -> bool
     ensures { result ≡ is_word name.now (said token.entry) }
 {
-    match token {
-        Token::Word(bytes) => bytes == name,
-        _ => false,
-    }
+    token == Token::Word(name)
 }
 
 // The first place that holds the name.
-fn place_of(tokens: Tokens<'_>, name: &[u8]) -> Result<u8, TextFault>
+fn place_of(tokens: Tokens<'_>, name: &[u8]) -> Result<usize, TextFault>
     ensures { result ≡ place (held tokens.entry) name.now }
 {
-    for place in 0..5 {
-        if is_word(tokens.at(place), name) {
-            return Ok(place);
-        }
-    }
-    Err(TextFault::NoNames)
+    tokens
+        .values
+        .iter()
+        .position(|token| is_word(*token, name))
+        .ok_or(TextFault::NoNames)
 }
 
 fn places_of(tokens: Tokens<'_>) -> Result<Columns, TextFault>

@@ -1,5 +1,5 @@
 -- What each word gives, by the tests of its columns.
-use Rattle.std.proofs.Common.{◌≡◌, ℕ, ◌^◌, ◌≤◌, Bool, true, false, cond, ◌&&◌, ◌||◌, eqb, ltb, leb, List, [], ◌∷◌, length, get_or, ℤ, pos, neg_ℤ, Some, None, Ok, Err, codes, Decides, Option, Result, sym, refl, ap, ◌∙◌, subst, arith}
+use Rattle.std.proofs.Common.{◌≡◌, ℕ, zero, suc, ◌^◌, ◌≤◌, Bool, true, false, cond, ◌&&◌, ◌||◌, eqb, ltb, leb, List, [], ◌∷◌, map, length, get_or, pos, neg_ℤ, Some, None, Ok, Err, codes, Decides, Result, sym, refl, ap, ◌∙◌, subst, arith}
 use Rattle.std.specs.Option.{ok_or}
 use Rattle.std.specs.Char.{is_ascii_digit}
 use Rattle.std.specs.Str.{all_ascii_digits, bytes_eq}
@@ -9,13 +9,13 @@ use Rattle.std.proofs.lemmas.Bool.Decides.{Decides-and, Decides-or, Decides-ltb,
 use Rattle.graph.specs.declared.Call.{Call}
 use Rattle.graph.specs.declared.Call.TheVariants as calls
 use Rattle.numbers.specs.Numbers.{read_on, numeral, plain, signed, unused}
-use Rattle.lexer.specs.Tokens.{word, number, behind_minus, lexeme}
+use Rattle.lexer.specs.Tokens.{Lexeme, word, number, behind_minus, lexeme}
 use Rattle.faults.specs.declared.Argument.{Argument}
 use Rattle.faults.specs.declared.Argument.TheVariants.{A, B, C, D}
 use Rattle.faults.specs.declared.TextFault.{TextFault}
 use Rattle.faults.specs.declared.TextFault.TheVariants.{NoValue}
 use Rattle.load.proofs.Shapes.{decides-leb}
-use Rattle.load.specs.Calls.{call}
+use Rattle.load.specs.Calls.{arg, whole, spare, spares, numbers, call}
 use Rattle.load.specs.Steps.{and_then}
 use Rattle.words.specs.declared.Word.{Word}
 use Rattle.words.specs.declared.Word.TheVariants as words
@@ -110,130 +110,77 @@ unused-is (x ∷ xs) = unused-by (eqb x 45) (is_ascii_digit x) x xs
 abbrev pub judged : (a b c d : Bool) → Call → Result Call TextFault
 judged a b c d k = cond a (cond b (cond c (cond d (Ok k) (Err (NoValue D))) (Err (NoValue C))) (Err (NoValue B))) (Err (NoValue A))
 
-abbrev none_by : (Call) → Option (Unit {0}) → Option (Unit {0}) → Option (Unit {0}) → Option (Unit {0}) → Result Call TextFault
-none_by k oa ob oc od = and_then (and_then (ok_or oa (NoValue A)) (λ _. and_then (ok_or ob (NoValue B)) (λ _. and_then (ok_or oc (NoValue C)) (λ _. ok_or od (NoValue D))))) (λ _. Ok k)
+-- a column as its test
+ok_by : {X : Type 0} (b : Bool) (i : X) (e : TextFault) → ok_or (cond b (Some i) None) e ≡ cond b (Ok i) (Err e)
+ok_by true i e = refl
+ok_by false i e = refl
 
-none-cases : (k : Call) (a b c d : Bool) → none_by k (cond a (Some tt) None) (cond b (Some tt) None) (cond c (Some tt) None) (cond d (Some tt) None) ≡ judged a b c d (k)
-none-cases k true true true true = refl
-none-cases k true true true false = refl
-none-cases k true true false d = refl
-none-cases k true false c d = refl
-none-cases k false b c d = refl
+arg-is : (v : List ℕ) (x : Argument) → arg (lexeme v) x ≡ cond (takes plain_number v) (Ok (read_on 0 v)) (Err (NoValue x))
+arg-is v x = ap (λ o. ok_or o (NoValue x)) (plain-is v) ∙ ok_by (takes plain_number v) (read_on 0 v) (NoValue x)
 
-none_is : (k : Call) (va vb vc vd : List ℕ) → none_by k (unused (lexeme va)) (unused (lexeme vb)) (unused (lexeme vc)) (unused (lexeme vd)) ≡ judged (takes nothing va) (takes nothing vb) (takes nothing vc) (takes nothing vd) (k)
-none_is k va vb vc vd =
-    ap (λ o. none_by k o (unused (lexeme vb)) (unused (lexeme vc)) (unused (lexeme vd))) (unused-is va)
-    ∙ ap (λ o. none_by k (cond (takes nothing va) (Some tt) None) o (unused (lexeme vc)) (unused (lexeme vd))) (unused-is vb)
-    ∙ ap (λ o. none_by k (cond (takes nothing va) (Some tt) None) (cond (takes nothing vb) (Some tt) None) o (unused (lexeme vd))) (unused-is vc)
-    ∙ ap (λ o. none_by k (cond (takes nothing va) (Some tt) None) (cond (takes nothing vb) (Some tt) None) (cond (takes nothing vc) (Some tt) None) o) (unused-is vd)
-    ∙ none-cases k (takes nothing va) (takes nothing vb) (takes nothing vc) (takes nothing vd)
+whole-is : (v : List ℕ) (x : Argument) → whole (lexeme v) x ≡ cond (takes whole_number v) (Ok (read_whole v)) (Err (NoValue x))
+whole-is v x = ap (λ o. ok_or o (NoValue x)) (signed_is v) ∙ ok_by (takes whole_number v) (read_whole v) (NoValue x)
 
-abbrev one_by : (ℕ → Call) → Option ℕ → Option (Unit {0}) → Option (Unit {0}) → Option (Unit {0}) → Result Call TextFault
-one_by k oa ob oc od = and_then (and_then (ok_or oa (NoValue A)) (λ i. and_then (ok_or ob (NoValue B)) (λ _. and_then (ok_or oc (NoValue C)) (λ _. and_then (ok_or od (NoValue D)) (λ _. Ok i))))) (λ i. Ok (k i))
+spare-is : (v : List ℕ) (x : Argument) → spare (lexeme v) x ≡ cond (takes nothing v) (Ok tt) (Err (NoValue x))
+spare-is v x = ap (λ o. ok_or o (NoValue x)) (unused-is v) ∙ ok_by (takes nothing v) tt (NoValue x)
 
-one-cases : (k : ℕ → Call) (i : ℕ) (a b c d : Bool) → one_by k (cond a (Some i) None) (cond b (Some tt) None) (cond c (Some tt) None) (cond d (Some tt) None) ≡ judged a b c d (k i)
-one-cases k i true true true true = refl
-one-cases k i true true true false = refl
-one-cases k i true true false d = refl
-one-cases k i true false c d = refl
-one-cases k i false b c d = refl
+-- the columns from the first: n numbers, and the others unused
+abbrev judged_from : (Argument → List ℕ) → ℕ → List Argument → (List ℕ → Result Call TextFault) → Result Call TextFault
+judged_from v zero [] k = k []
+judged_from v zero (x ∷ xs) k = cond (takes nothing (v x)) (judged_from v zero xs k) (Err (NoValue x))
+judged_from v (suc n) [] k = k []
+judged_from v (suc n) (x ∷ xs) k = cond (takes plain_number (v x)) (judged_from v n xs (λ is. k (read_on 0 (v x) ∷ is))) (Err (NoValue x))
 
-one-is : (k : ℕ → Call) (va vb vc vd : List ℕ) → one_by k (plain (lexeme va)) (unused (lexeme vb)) (unused (lexeme vc)) (unused (lexeme vd)) ≡ judged (takes plain_number va) (takes nothing vb) (takes nothing vc) (takes nothing vd) (k (read_on 0 va))
-one-is k va vb vc vd =
-    ap (λ o. one_by k o (unused (lexeme vb)) (unused (lexeme vc)) (unused (lexeme vd))) (plain-is va)
-    ∙ ap (λ o. one_by k (cond (takes plain_number va) (Some (read_on 0 va)) None) o (unused (lexeme vc)) (unused (lexeme vd))) (unused-is vb)
-    ∙ ap (λ o. one_by k (cond (takes plain_number va) (Some (read_on 0 va)) None) (cond (takes nothing vb) (Some tt) None) o (unused (lexeme vd))) (unused-is vc)
-    ∙ ap (λ o. one_by k (cond (takes plain_number va) (Some (read_on 0 va)) None) (cond (takes nothing vb) (Some tt) None) (cond (takes nothing vc) (Some tt) None) o) (unused-is vd)
-    ∙ one-cases k (read_on 0 va) (takes plain_number va) (takes nothing vb) (takes nothing vc) (takes nothing vd)
+spare_by : (b : Bool) (e : TextFault) (r : Result (Unit {0}) TextFault) (k : List ℕ → Result Call TextFault) → and_then (and_then (and_then {X = Unit {0}} (cond b (Ok tt) (Err e)) (λ _. r)) (λ _. Ok [])) k ≡ cond b (and_then (and_then r (λ _. Ok [])) k) (Err e)
+spare_by true e r k = refl
+spare_by false e r k = refl
 
-abbrev two_by : (ℕ → ℕ → Call) → Option ℕ → Option ℕ → Option (Unit {0}) → Option (Unit {0}) → Result Call TextFault
-two_by k oa ob oc od = and_then {X = ℕ × ℕ} (and_then (ok_or oa (NoValue A)) (λ i. and_then (ok_or ob (NoValue B)) (λ j. and_then (ok_or oc (NoValue C)) (λ _. and_then (ok_or od (NoValue D)) (λ _. Ok (i, j)))))) (λ x. Ok (k x.0 x.1))
+number_by : (b : Bool) (i : ℕ) (e : TextFault) (r : Result (List ℕ) TextFault) (k : List ℕ → Result Call TextFault) → and_then (and_then (cond b (Ok i) (Err e)) (λ i. and_then r (λ is. Ok (i ∷ is)))) k ≡ cond b (and_then r (λ is. k (i ∷ is))) (Err e)
+number_by true i e (Ok is) k = refl
+number_by true i e (Err f) k = refl
+number_by false i e r k = refl
 
-two_cases : (k : ℕ → ℕ → Call) (i : ℕ) (j : ℕ) (a b c d : Bool) → two_by k (cond a (Some i) None) (cond b (Some j) None) (cond c (Some tt) None) (cond d (Some tt) None) ≡ judged a b c d (k i j)
-two_cases k i j true true true true = refl
-two_cases k i j true true true false = refl
-two_cases k i j true true false d = refl
-two_cases k i j true false c d = refl
-two_cases k i j false b c d = refl
+abbrev named : (Argument → List ℕ) → List Argument → List (Lexeme × Argument)
+named v xs = map (λ x. (lexeme (v x), x)) xs
 
-two_is : (k : ℕ → ℕ → Call) (va vb vc vd : List ℕ) → two_by k (plain (lexeme va)) (plain (lexeme vb)) (unused (lexeme vc)) (unused (lexeme vd)) ≡ judged (takes plain_number va) (takes plain_number vb) (takes nothing vc) (takes nothing vd) (k (read_on 0 va) (read_on 0 vb))
-two_is k va vb vc vd =
-    ap (λ o. two_by k o (plain (lexeme vb)) (unused (lexeme vc)) (unused (lexeme vd))) (plain-is va)
-    ∙ ap (λ o. two_by k (cond (takes plain_number va) (Some (read_on 0 va)) None) o (unused (lexeme vc)) (unused (lexeme vd))) (plain-is vb)
-    ∙ ap (λ o. two_by k (cond (takes plain_number va) (Some (read_on 0 va)) None) (cond (takes plain_number vb) (Some (read_on 0 vb)) None) o (unused (lexeme vd))) (unused-is vc)
-    ∙ ap (λ o. two_by k (cond (takes plain_number va) (Some (read_on 0 va)) None) (cond (takes plain_number vb) (Some (read_on 0 vb)) None) (cond (takes nothing vc) (Some tt) None) o) (unused-is vd)
-    ∙ two_cases k (read_on 0 va) (read_on 0 vb) (takes plain_number va) (takes plain_number vb) (takes nothing vc) (takes nothing vd)
+numbers-is : (v : Argument → List ℕ) (n : ℕ) (xs : List Argument) (k : List ℕ → Result Call TextFault) → and_then (numbers n (named v xs)) k ≡ judged_from v n xs k
+numbers-is v zero [] k = refl
+numbers-is v zero (x ∷ xs) k =
+    ap (λ r. and_then (and_then (and_then r (λ _. spares (named v xs))) (λ _. Ok [])) k) (spare-is (v x) x)
+    ∙ spare_by (takes nothing (v x)) (NoValue x) (spares (named v xs)) k
+    ∙ ap (λ r. cond (takes nothing (v x)) r (Err (NoValue x))) (numbers-is v zero xs k)
+numbers-is v (suc n) [] k = refl
+numbers-is v (suc n) (x ∷ xs) k =
+    ap (λ r. and_then (and_then r (λ i. and_then (numbers n (named v xs)) (λ is. Ok (i ∷ is)))) k) (arg-is (v x) x)
+    ∙ number_by (takes plain_number (v x)) (read_on 0 (v x)) (NoValue x) (numbers n (named v xs)) k
+    ∙ ap (λ r. cond (takes plain_number (v x)) r (Err (NoValue x))) (numbers-is v n xs (λ is. k (read_on 0 (v x) ∷ is)))
 
-abbrev three_by : (ℕ → ℕ → ℕ → Call) → Option ℕ → Option ℕ → Option ℕ → Option (Unit {0}) → Result Call TextFault
-three_by k oa ob oc od = and_then {X = ℕ × ℕ × ℕ} (and_then (ok_or oa (NoValue A)) (λ i. and_then (ok_or ob (NoValue B)) (λ j. and_then (ok_or oc (NoValue C)) (λ l. and_then (ok_or od (NoValue D)) (λ _. Ok (i, j, l)))))) (λ x. Ok (k x.0 x.1 x.2))
+all-is : (v : Argument → List ℕ) (n : ℕ) (k : List ℕ → Call) → and_then (numbers n (named v (A ∷ B ∷ C ∷ D ∷ []))) (λ ns. Ok (k ns)) ≡ judged_from v n (A ∷ B ∷ C ∷ D ∷ []) (λ ns. Ok (k ns))
+all-is v n k = numbers-is v n (A ∷ B ∷ C ∷ D ∷ []) (λ ns. Ok (k ns))
 
-three-cases : (k : ℕ → ℕ → ℕ → Call) (i : ℕ) (j : ℕ) (l : ℕ) (a b c d : Bool) → three_by k (cond a (Some i) None) (cond b (Some j) None) (cond c (Some l) None) (cond d (Some tt) None) ≡ judged a b c d (k i j l)
-three-cases k i j l true true true true = refl
-three-cases k i j l true true true false = refl
-three-cases k i j l true true false d = refl
-three-cases k i j l true false c d = refl
-three-cases k i j l false b c d = refl
+then_by : {X : Type 0} (b : Bool) (i : X) (e : TextFault) (k : X → Result Call TextFault) → and_then (cond b (Ok i) (Err e)) k ≡ cond b (k i) (Err e)
+then_by true i e k = refl
+then_by false i e k = refl
 
-three-is : (k : ℕ → ℕ → ℕ → Call) (va vb vc vd : List ℕ) → three_by k (plain (lexeme va)) (plain (lexeme vb)) (plain (lexeme vc)) (unused (lexeme vd)) ≡ judged (takes plain_number va) (takes plain_number vb) (takes plain_number vc) (takes nothing vd) (k (read_on 0 va) (read_on 0 vb) (read_on 0 vc))
-three-is k va vb vc vd =
-    ap (λ o. three_by k o (plain (lexeme vb)) (plain (lexeme vc)) (unused (lexeme vd))) (plain-is va)
-    ∙ ap (λ o. three_by k (cond (takes plain_number va) (Some (read_on 0 va)) None) o (plain (lexeme vc)) (unused (lexeme vd))) (plain-is vb)
-    ∙ ap (λ o. three_by k (cond (takes plain_number va) (Some (read_on 0 va)) None) (cond (takes plain_number vb) (Some (read_on 0 vb)) None) o (unused (lexeme vd))) (plain-is vc)
-    ∙ ap (λ o. three_by k (cond (takes plain_number va) (Some (read_on 0 va)) None) (cond (takes plain_number vb) (Some (read_on 0 vb)) None) (cond (takes plain_number vc) (Some (read_on 0 vc)) None) o) (unused-is vd)
-    ∙ three-cases k (read_on 0 va) (read_on 0 vb) (read_on 0 vc) (takes plain_number va) (takes plain_number vb) (takes plain_number vc) (takes nothing vd)
-
-abbrev four_by : (ℕ → ℕ → ℕ → ℕ → Call) → Option ℕ → Option ℕ → Option ℕ → Option ℕ → Result Call TextFault
-four_by k oa ob oc od = and_then {X = ℕ × ℕ × ℕ × ℕ} (and_then (ok_or oa (NoValue A)) (λ i. and_then (ok_or ob (NoValue B)) (λ j. and_then (ok_or oc (NoValue C)) (λ l. and_then (ok_or od (NoValue D)) (λ m. Ok (i, j, l, m)))))) (λ x. Ok (k x.0 x.1 x.2 x.3))
-
-four-cases : (k : ℕ → ℕ → ℕ → ℕ → Call) (i : ℕ) (j : ℕ) (l : ℕ) (m : ℕ) (a b c d : Bool) → four_by k (cond a (Some i) None) (cond b (Some j) None) (cond c (Some l) None) (cond d (Some m) None) ≡ judged a b c d (k i j l m)
-four-cases k i j l m true true true true = refl
-four-cases k i j l m true true true false = refl
-four-cases k i j l m true true false d = refl
-four-cases k i j l m true false c d = refl
-four-cases k i j l m false b c d = refl
-
-four_is : (k : ℕ → ℕ → ℕ → ℕ → Call) (va vb vc vd : List ℕ) → four_by k (plain (lexeme va)) (plain (lexeme vb)) (plain (lexeme vc)) (plain (lexeme vd)) ≡ judged (takes plain_number va) (takes plain_number vb) (takes plain_number vc) (takes plain_number vd) (k (read_on 0 va) (read_on 0 vb) (read_on 0 vc) (read_on 0 vd))
-four_is k va vb vc vd =
-    ap (λ o. four_by k o (plain (lexeme vb)) (plain (lexeme vc)) (plain (lexeme vd))) (plain-is va)
-    ∙ ap (λ o. four_by k (cond (takes plain_number va) (Some (read_on 0 va)) None) o (plain (lexeme vc)) (plain (lexeme vd))) (plain-is vb)
-    ∙ ap (λ o. four_by k (cond (takes plain_number va) (Some (read_on 0 va)) None) (cond (takes plain_number vb) (Some (read_on 0 vb)) None) o (plain (lexeme vd))) (plain-is vc)
-    ∙ ap (λ o. four_by k (cond (takes plain_number va) (Some (read_on 0 va)) None) (cond (takes plain_number vb) (Some (read_on 0 vb)) None) (cond (takes plain_number vc) (Some (read_on 0 vc)) None) o) (plain-is vd)
-    ∙ four-cases k (read_on 0 va) (read_on 0 vb) (read_on 0 vc) (read_on 0 vd) (takes plain_number va) (takes plain_number vb) (takes plain_number vc) (takes plain_number vd)
-
-abbrev num_by : (ℕ → ℤ → Call) → Option ℕ → Option ℤ → Option (Unit {0}) → Option (Unit {0}) → Result Call TextFault
-num_by k oa ob oc od = and_then (ok_or oa (NoValue A)) (λ i. and_then (ok_or ob (NoValue B)) (λ j. and_then (ok_or oc (NoValue C)) (λ _. and_then (ok_or od (NoValue D)) (λ _. Ok (k i j)))))
-
-num-cases : (k : ℕ → ℤ → Call) (i : ℕ) (j : ℤ) (a b c d : Bool) → num_by k (cond a (Some i) None) (cond b (Some j) None) (cond c (Some tt) None) (cond d (Some tt) None) ≡ judged a b c d (k i j)
-num-cases k i j true true true true = refl
-num-cases k i j true true true false = refl
-num-cases k i j true true false d = refl
-num-cases k i j true false c d = refl
-num-cases k i j false b c d = refl
-
-num-is : (k : ℕ → ℤ → Call) (va vb vc vd : List ℕ) → num_by k (plain (lexeme va)) (signed (lexeme vb)) (unused (lexeme vc)) (unused (lexeme vd)) ≡ judged (takes plain_number va) (takes whole_number vb) (takes nothing vc) (takes nothing vd) (k (read_on 0 va) (read_whole vb))
-num-is k va vb vc vd =
-    ap (λ o. num_by k o (signed (lexeme vb)) (unused (lexeme vc)) (unused (lexeme vd))) (plain-is va)
-    ∙ ap (λ o. num_by k (cond (takes plain_number va) (Some (read_on 0 va)) None) o (unused (lexeme vc)) (unused (lexeme vd))) (signed_is vb)
-    ∙ ap (λ o. num_by k (cond (takes plain_number va) (Some (read_on 0 va)) None) (cond (takes whole_number vb) (Some (read_whole vb)) None) o (unused (lexeme vd))) (unused-is vc)
-    ∙ ap (λ o. num_by k (cond (takes plain_number va) (Some (read_on 0 va)) None) (cond (takes whole_number vb) (Some (read_whole vb)) None) (cond (takes nothing vc) (Some tt) None) o) (unused-is vd)
-    ∙ num-cases k (read_on 0 va) (read_whole vb) (takes plain_number va) (takes whole_number vb) (takes nothing vc) (takes nothing vd)
+num-is : (v : Argument → List ℕ) → call words.Num (lexeme (v A)) (lexeme (v B)) (lexeme (v C)) (lexeme (v D)) ≡ judged (takes plain_number (v A)) (takes whole_number (v B)) (takes nothing (v C)) (takes nothing (v D)) (calls.Num (read_on 0 (v A)) (read_whole (v B)))
+num-is v = simp (arg-is, whole-is, spare-is, then_by)
 
 pub call-is : (w : Word) (v : Argument → List ℕ) → call w (lexeme (v A)) (lexeme (v B)) (lexeme (v C)) (lexeme (v D)) ≡ judged (takes (use_of w A) (v A)) (takes (use_of w B) (v B)) (takes (use_of w C) (v C)) (takes (use_of w D) (v D)) (meant w v)
-call-is words.Num v = num-is calls.Num (v A) (v B) (v C) (v D)
-call-is words.Clear v = one-is calls.Clear (v A) (v B) (v C) (v D)
-call-is words.Copy v = two_is calls.Copy (v A) (v B) (v C) (v D)
-call-is words.Map v = four_is calls.Map (v A) (v B) (v C) (v D)
-call-is words.Layout v = three-is calls.Layout (v A) (v B) (v C) (v D)
-call-is words.Record v = two_is calls.Record (v A) (v B) (v C) (v D)
-call-is words.Load v = three-is calls.Load (v A) (v B) (v C) (v D)
-call-is words.Save v = three-is calls.Save (v A) (v B) (v C) (v D)
-call-is words.RawLoad v = two_is calls.RawLoad (v A) (v B) (v C) (v D)
-call-is words.RawSave v = three-is calls.RawSave (v A) (v B) (v C) (v D)
-call-is words.Kind v = one-is calls.Kind (v A) (v B) (v C) (v D)
-call-is words.Value v = one-is calls.Value (v A) (v B) (v C) (v D)
-call-is words.Same v = two_is calls.Same (v A) (v B) (v C) (v D)
-call-is words.Part v = three-is calls.Part (v A) (v B) (v C) (v D)
-call-is words.Figure v = one-is calls.Figure (v A) (v B) (v C) (v D)
-call-is words.Raws v = one-is calls.Raws (v A) (v B) (v C) (v D)
-call-is words.Collect v = none_is calls.Collect (v A) (v B) (v C) (v D)
-call-is words.Fill v = none_is calls.Fill (v A) (v B) (v C) (v D)
+call-is words.Num v = num-is v
+call-is words.Clear v = all-is v 1 (λ ns. calls.Clear (get_or ns 0 0))
+call-is words.Copy v = all-is v 2 (λ ns. calls.Copy (get_or ns 0 0) (get_or ns 1 0))
+call-is words.Map v = all-is v 4 (λ ns. calls.Map (get_or ns 0 0) (get_or ns 1 0) (get_or ns 2 0) (get_or ns 3 0))
+call-is words.Layout v = all-is v 3 (λ ns. calls.Layout (get_or ns 0 0) (get_or ns 1 0) (get_or ns 2 0))
+call-is words.Record v = all-is v 2 (λ ns. calls.Record (get_or ns 0 0) (get_or ns 1 0))
+call-is words.Load v = all-is v 3 (λ ns. calls.Load (get_or ns 0 0) (get_or ns 1 0) (get_or ns 2 0))
+call-is words.Save v = all-is v 3 (λ ns. calls.Save (get_or ns 0 0) (get_or ns 1 0) (get_or ns 2 0))
+call-is words.RawLoad v = all-is v 2 (λ ns. calls.RawLoad (get_or ns 0 0) (get_or ns 1 0))
+call-is words.RawSave v = all-is v 3 (λ ns. calls.RawSave (get_or ns 0 0) (get_or ns 1 0) (get_or ns 2 0))
+call-is words.Kind v = all-is v 1 (λ ns. calls.Kind (get_or ns 0 0))
+call-is words.Value v = all-is v 1 (λ ns. calls.Value (get_or ns 0 0))
+call-is words.Same v = all-is v 2 (λ ns. calls.Same (get_or ns 0 0) (get_or ns 1 0))
+call-is words.Part v = all-is v 3 (λ ns. calls.Part (get_or ns 0 0) (get_or ns 1 0) (get_or ns 2 0))
+call-is words.Figure v = all-is v 1 (λ ns. calls.Figure (get_or ns 0 0))
+call-is words.Raws v = all-is v 1 (λ ns. calls.Raws (get_or ns 0 0))
+call-is words.Collect v = all-is v 0 (λ ns. calls.Collect)
+call-is words.Fill v = all-is v 0 (λ ns. calls.Fill)

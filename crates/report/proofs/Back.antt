@@ -1,8 +1,8 @@
 -- What the output shows is read back.
-use Rattle.std.proofs.Common.{◌≡◌, ℕ, zero, suc, ◌^◌, ◌<◌, Bool, true, false, List, [], ◌∷◌, ◌++◌, map, ℤ, pos, negsuc, neg_ℤ, Some, None, decimal, refl, ap, ◌∙◌, arith}
+use Rattle.std.proofs.Common.{◌≡◌, ℕ, zero, suc, ◌^◌, ◌<◌, true, List, [], ◌∷◌, ◌++◌, map, ℤ, pos, negsuc, neg_ℤ, Some, None, Ok, Err, Result, decimal, refl, ap, ◌∙◌, arith}
 use lib.Signed.{mag}
 use Rattle.std.specs.Int.{IsInRange}
-use Rattle.std.specs.Fmt.{signed_decimal}
+use Rattle.std.specs.Fmt.{digits, signed_decimal}
 use Rattle.std.specs.List.{AllByRecursion}
 use Rattle.std.specs.Str.{all_ascii_digits}
 use Rattle.std.proofs.lemmas.Fmt.{digits_decimal, digits_value-decimal}
@@ -12,7 +12,8 @@ use Rattle.numbers.specs.Numbers.{read_on}
 use Rattle.lexer.specs.Pieces.{Lacks, lines, pieces}
 use Rattle.lexer.proofs.Cuts.{pieces_more, pieces-last, lines_more}
 use Rattle.report.specs.declared.reports.Report.{Report}
-use Rattle.report.specs.Reports.{state, shown_report, written}
+use Rattle.report.specs.declared.reports.Stop.{Stop}
+use Rattle.report.specs.Reports.{state, number, position, shown_report, written}
 use Rattle.report.specs.Reading.{read_signed, read_as, read_values, read_report, Fits, ReadBack, OutputReadBack}
 
 own : IsNumeralModel (λ ds. all_ascii_digits ds ≡ true) (read_on 0)
@@ -48,40 +49,35 @@ signed_back : (z : ℤ) → mag z < 2 ^ 63 → read_signed (signed_decimal z) �
 signed_back (pos n) h = read_pos (decimal n) (lacks-decimal 45 (λ i. omega (arith, i.0)) n (omega (arith, h))) ∙ ap pos (digits_value-decimal own n (omega (arith, h)))
 signed_back (negsuc n) h = ap (λ k. neg_ℤ (pos k)) (digits_value-decimal own (suc n) (omega (arith, h)))
 
-state-piece : (b : Bool) (rest : List ℕ) → pieces (state b ++ (32 ∷ rest)) ≡ state b ∷ pieces rest
-state-piece true rest = refl
-state-piece false rest = refl
+lacks-state : (m : ℕ) → m < 97 → (o : Result ℤ Stop) → Lacks m (state o)
+lacks-state m small (Ok answer) = lacks-cons m 111 (107 ∷ []) (λ e. omega (arith, e, small)) (lacks-cons m 107 [] (λ e. omega (arith, e, small)) (λ k h e. omega (arith, h)))
+lacks-state m small (Err e) = lacks-cons m 110 (111 ∷ []) (λ e. omega (arith, e, small)) (lacks-cons m 111 [] (λ e. omega (arith, e, small)) (λ k h e. omega (arith, h)))
 
-state-back : (b : Bool) (l n a : List ℕ) → read_values (l ∷ state b ∷ n ∷ a ∷ []) ≡ Some (read_as b l n a)
-state-back true l n a = refl
-state-back false l n a = refl
-
-lacks-state : (b : Bool) → Lacks 10 (state b)
-lacks-state true = lacks-cons 10 111 (107 ∷ []) (λ e. omega (arith, e)) (lacks-cons 10 107 [] (λ e. omega (arith, e)) (λ k h e. omega (arith, h)))
-lacks-state false = lacks-cons 10 110 (111 ∷ []) (λ e. omega (arith, e)) (lacks-cons 10 111 [] (λ e. omega (arith, e)) (λ k h e. omega (arith, h)))
+-- an outcome is read as it was, where its number and its position are
+told-back : (l : ℕ) (o : Result ℤ Stop) (i p : List ℕ) → p ≡ decimal (position o) → read_signed i ≡ number o → read_on 0 p ≡ position o → read_as l (state o) i p ≡ Some (record { line = l; outcome = o })
+unfolding digits
+told-back l (Ok answer) i p shown ei ep = rw (shown, ei) refl
+told-back l (Err e) i p shown ei ep = rw (ei, ep) refl
 
 module _ (r : Report) (fits : Fits r) where
   line-fits : r.line < 2 ^ 64
   line-fits = omega (arith, fits.line)
 
-  at-fits : r.at < 2 ^ 64
+  at-fits : position r.outcome < 2 ^ 64
   at-fits = omega (arith, fits.at)
 
-  cut : pieces (shown_report r) ≡ decimal r.line ∷ state r.ok ∷ signed_decimal r.number ∷ decimal r.at ∷ []
+  cut : pieces (shown_report r) ≡ decimal r.line ∷ state r.outcome ∷ signed_decimal (number r.outcome) ∷ decimal (position r.outcome) ∷ []
   cut =
       pieces_more (decimal r.line) _ (lacks-decimal 32 spaces r.line line-fits)
-      ∙ ap (λ ps. decimal r.line ∷ ps) (state-piece r.ok _
-      ∙ ap (λ ps. state r.ok ∷ ps) (pieces_more (signed_decimal r.number) _ (lacks-signed 32 spaces (λ e. omega (arith, e)) r.number fits.number)
-      ∙ ap (λ ps. signed_decimal r.number ∷ ps) (pieces-last (decimal r.at) (lacks-decimal 32 spaces r.at at-fits))))
-
-  made : (l a : ℕ) (z : ℤ) → l ≡ r.line → z ≡ r.number → a ≡ r.at → Some (record { line = l; ok = r.ok; number = z; at = a }) ≡ Some r
-  made l a z el ez ea = rw (el, ez, ea) refl
+      ∙ ap (λ ps. decimal r.line ∷ ps) (pieces_more (state r.outcome) _ (lacks-state 32 (omega arith) r.outcome)
+      ∙ ap (λ ps. state r.outcome ∷ ps) (pieces_more (signed_decimal (number r.outcome)) _ (lacks-signed 32 spaces (λ e. omega (arith, e)) (number r.outcome) fits.number)
+      ∙ ap (λ ps. signed_decimal (number r.outcome) ∷ ps) (pieces-last (decimal (position r.outcome)) (lacks-decimal 32 spaces (position r.outcome) at-fits))))
 
   back : read_report (shown_report r) ≡ Some r
   back =
       ap read_values cut
-      ∙ state-back r.ok (decimal r.line) (signed_decimal r.number) (decimal r.at)
-      ∙ made _ _ _ (digits_value-decimal own r.line line-fits) (signed_back r.number fits.number) (digits_value-decimal own r.at at-fits)
+      ∙ ap (λ l. read_as l (state r.outcome) (signed_decimal (number r.outcome)) (decimal (position r.outcome))) (digits_value-decimal own r.line line-fits)
+      ∙ told-back r.line r.outcome (signed_decimal (number r.outcome)) (decimal (position r.outcome)) refl (signed_back (number r.outcome) fits.number) (digits_value-decimal own (position r.outcome) at-fits)
 
   space : (xs : List ℕ) → Lacks 10 xs → Lacks 10 (32 ∷ xs)
   space xs h = lacks-cons 10 32 xs (λ e. omega (arith, e)) h
@@ -89,9 +85,9 @@ module _ (r : Report) (fits : Fits r) where
   one_line : Lacks 10 (shown_report r)
   one_line =
       lacks-append 10 (decimal r.line) _ (lacks-decimal 10 newlines r.line line-fits) (space _ (
-      lacks-append 10 (state r.ok) _ (lacks-state r.ok) (space _ (
-      lacks-append 10 (signed_decimal r.number) _ (lacks-signed 10 newlines (λ e. omega (arith, e)) r.number fits.number) (space _ (
-      lacks-decimal 10 newlines r.at at-fits))))))
+      lacks-append 10 (state r.outcome) _ (lacks-state 10 (omega arith) r.outcome) (space _ (
+      lacks-append 10 (signed_decimal (number r.outcome)) _ (lacks-signed 10 newlines (λ e. omega (arith, e)) (number r.outcome) fits.number) (space _ (
+      lacks-decimal 10 newlines (position r.outcome) at-fits))))))
 
 pub read_back : ReadBack
 read_back = back

@@ -1,27 +1,29 @@
 -- The output, read.
-use Rattle.std.specs.Prelude.{◌≡◌, ℕ, ◌^◌, ◌<◌, Bool, true, false, cond, List, [], ◌∷◌, map, ℤ, pos, neg_ℤ, Some, None, codes, Option, ◌==◌}
+use Rattle.std.specs.Prelude.{◌≡◌, ℕ, ◌^◌, ◌<◌, cond, ◌&&◌, List, [], ◌∷◌, map, ℤ, pos, neg_ℤ, Some, None, Ok, Err, codes, Option, ◌==◌}
 use Rattle.std.specs.Int.Signed.{mag}
 use Rattle.std.specs.List.{AllByRecursion}
 use Rattle.std.specs.Str.{bytes_eq}
 use Rattle.numbers.specs.Numbers.{read_on}
 use Rattle.lexer.specs.Pieces.{lines, pieces}
 use Rattle.report.specs.declared.reports.Report.{Report}
-use Rattle.report.specs.Reports.{shown_report, output}
+use Rattle.report.specs.Reports.{number, position, shown_report, output}
 
 -- the number that a text writes, with or without a minus
 abbrev pub read_signed : List ℕ → ℤ
 read_signed [] = pos 0
 read_signed (x ∷ xs) = cond (x == 45) (neg_ℤ (pos (read_on 0 xs))) (pos (read_on 0 (x ∷ xs)))
 
-abbrev pub read_as : Bool → (l n a : List ℕ) → Report
-read_as granted l n a = record { line = read_on 0 l; ok = granted; number = read_signed n; at = read_on 0 a }
+-- what a state, a number and a position tell, of line n
+abbrev pub read_as : (n : ℕ) (state number position : List ℕ) → Option Report
+read_as n s i p =
+    cond (bytes_eq s (codes "ok") && bytes_eq p (codes "0")) (Some (record { line = n; outcome = Ok (read_signed i) })) (cond (bytes_eq s (codes "no")) (Some (record { line = n; outcome = Err (record { number = read_signed i; at = read_on 0 p }) })) None)
 
 abbrev pub read_values : List (List ℕ) → Option Report
 read_values [] = None
 read_values (l ∷ []) = None
 read_values (l ∷ s ∷ []) = None
 read_values (l ∷ s ∷ n ∷ []) = None
-read_values (l ∷ s ∷ n ∷ a ∷ []) = cond (bytes_eq s (codes "ok")) (Some (read_as true l n a)) (cond (bytes_eq s (codes "no")) (Some (read_as false l n a)) None)
+read_values (l ∷ s ∷ n ∷ a ∷ []) = read_as (read_on 0 l) s n a
 read_values (l ∷ s ∷ n ∷ a ∷ x ∷ xs) = None
 
 -- the report that a line of the output shows
@@ -31,8 +33,8 @@ read_report line = read_values (pieces line)
 -- a report that fits the widths of its parts
 pub record Fits (r : Report) : Type 0 where
   pub line : r.line < 2 ^ 32
-  pub number : mag r.number < 2 ^ 63
-  pub at : r.at < 2 ^ 8
+  pub number : mag (number r.outcome) < 2 ^ 63
+  pub at : position r.outcome < 2 ^ 8
 
 abbrev pub ReadBack : Type 0
 ReadBack = (r : Report) → Fits r → read_report (shown_report r) ≡ Some r

@@ -1,21 +1,38 @@
 -- The lines of the output, as values and as text.
-use Rattle.std.specs.Prelude.{ℕ, Bool, true, false, cond, List, [], ◌∷◌, ◌++◌, ℤ, pos, Ok, Err, codes, decimal, Result}
+use Rattle.std.specs.Prelude.{ℕ, List, [], ◌∷◌, ◌++◌, ℤ, pos, Ok, Err, codes, decimal, Result}
 use Rattle.std.specs.Fmt.{signed_decimal}
 use Rattle.report.specs.declared.line_faults.LineFault.{LineFault}
+use Rattle.report.specs.declared.line_faults.CallFault.{CallFault}
 use Rattle.report.specs.declared.reports.Report.{Report}
+use Rattle.report.specs.declared.reports.Stop.{Stop}
 use Rattle.report.specs.Faults.{fault_number, fault_position}
+
+-- the number and the position of a fault
+abbrev pub stop_of : CallFault → Stop
+stop_of e = record { number = pos (fault_number e); at = fault_position e }
 
 -- what is told of line n
 abbrev pub reported : ℕ → Result ℤ LineFault → Report
-reported n (Ok answer) = record { line = n; ok = true; number = answer; at = 0 }
-reported n (Err e) = record { line = e.line; ok = false; number = pos (fault_number e.fault); at = fault_position e.fault }
+reported n (Ok answer) = record { line = n; outcome = Ok answer }
+reported n (Err e) = record { line = e.line; outcome = Err (stop_of e.fault) }
 
-abbrev pub state : Bool → List ℕ
-state granted = cond granted (codes "ok") (codes "no")
+-- how an outcome is told: its state, its number, and its position, 0 if there is none
+abbrev pub state : Result ℤ Stop → List ℕ
+state (Ok answer) = codes "ok"
+state (Err e) = codes "no"
+
+abbrev pub number : Result ℤ Stop → ℤ
+number (Ok answer) = answer
+number (Err e) = e.number
+
+abbrev pub position : Result ℤ Stop → ℕ
+position (Ok answer) = 0
+position (Err e) = e.at
 
 -- line, state, number and position, one space between
 abbrev pub shown_report : Report → List ℕ
-shown_report x = decimal x.line ++ (codes " " ++ (state x.ok ++ (codes " " ++ (signed_decimal x.number ++ (codes " " ++ decimal x.at)))))
+shown_report x =
+    decimal x.line ++ (codes " " ++ (state x.outcome ++ (codes " " ++ (signed_decimal (number x.outcome) ++ (codes " " ++ decimal (position x.outcome))))))
 
 -- every line ends with byte 10
 abbrev pub written : List Report → List ℕ

@@ -8,7 +8,7 @@ use faults::TextFault;
 use graph::Refusal;
 
 /// What stops a call: the text of its line, or the heap.
-#[derive(Clone, Copy)]
+#[derive(Clone, Copy, PartialEq, Eq, Debug)]
 pub enum CallFault {
     Text(TextFault),
     Heap(Refusal),
@@ -53,7 +53,7 @@ impl From<Refusal> for CallFault {
 }
 
 /// What stops a line of the load, with the line's number.
-#[derive(Clone, Copy)]
+#[derive(Clone, Copy, PartialEq, Eq, Debug)]
 pub struct LineFault {
     pub line: u32,
     pub fault: CallFault,
@@ -71,9 +71,6 @@ impl<T> OnLine<T> for Result<T, CallFault> {
     ghost placed = { λ s n. on_line s n };
 
     fn on(self, line: u32) -> Result<T, LineFault> {
-        match self {
-            Ok(x) => Ok(x),
-            Err(fault) => Err(LineFault { line, fault }),
-        }
+        self.map_err(|fault| LineFault { line, fault })
     }
 }

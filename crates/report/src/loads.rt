@@ -6,7 +6,7 @@ ghost use Rattle.report.specs.Faults.{of_text};
 ghost use Rattle.report.specs.Loads.{within, heading, columns_of, behind, Worked};
 
 use crate::line_faults::{CallFault, LineFault, OnLine};
-use faults::TextFault;
+use faults::{LONGEST_INPUT, TextFault};
 use lexer::lines::next_line;
 use load::names::{Columns, columns_of};
 
@@ -17,8 +17,6 @@ pub struct Opened<'a> {
     pub rest: &'a [u8],
 }
 
-const LONGEST_INPUT: usize = 65_536;
-
 fn check_length(input: &[u8]) -> Result<(), CallFault>
     ensures { result ≡ within input.now }
 {
@@ -28,26 +26,16 @@ fn check_length(input: &[u8]) -> Result<(), CallFault>
     Ok(())
 }
 
-fn names_of(line: &[u8]) -> Result<Columns, CallFault>
-    ensures { result ≡ of_text (columns_in line.now) }
-{
-    let columns = columns_of(line)?;
-    Ok(columns)
-}
-
 /// Reads the name line. An input that is too long has a fault on line 0; one without the five names, the empty input too, on line 1. After either a load stops.
 pub fn open_load<'a>(input: &'a [u8]) -> Result<Opened<'a>, LineFault>
     ensures value { columns_of result ≡ heading input.now }
     ensures rest { IfOk result (λ o. (lines o.rest.now ≡ behind (lines input.now)) × (length o.rest.now < 65536)) }
 {
     check_length(input).on(0)?;
-    let Some((first, rest)) = next_line(input) else {
-        return Err(LineFault {
-            line: 1,
-            fault: CallFault::Text(TextFault::NoNames),
-        });
-    };
-    let columns = names_of(first).on(1)?;
+    let (first, rest) = next_line(input)
+        .ok_or(CallFault::Text(TextFault::NoNames))
+        .on(1)?;
+    let columns = columns_of(first).map_err(CallFault::from).on(1)?;
     Ok(Opened { columns, rest })
 }
 

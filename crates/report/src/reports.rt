@@ -1,19 +1,35 @@
 // The lines of the output.
 ghost use Rattle.std.specs.Prelude.{◌≡◌, List, ◌++◌, IfOk, Some, string_bytes, codes};
-ghost use Rattle.report.specs.Reports.{reported, shown_report, output};
+ghost use Rattle.report.specs.Reports.{stop_of, reported, shown_report, output};
 ghost use Rattle.report.specs.Reading.{ReadBack, OutputReadBack};
 
-use crate::line_faults::LineFault;
+use crate::line_faults::{CallFault, LineFault};
 use std::alloc::{AllocError, Global};
 use std::fmt;
 
-/// A line of the output: the number of the input's line, whether the call was granted, its answer or the number of what stopped it, and the position of the value that did not do, 0 if there is none.
-#[derive(Clone, Copy)]
-pub struct Report {
-    pub line: u32,
-    pub ok: bool,
+/// What stopped a line: the number of the fault, and the position of the value that did not do, 0 if there is none.
+#[derive(Clone, Copy, PartialEq, Eq, Debug)]
+pub struct Stop {
     pub number: i64,
     pub at: u8,
+}
+
+impl From<CallFault> for Stop {
+    ghost from_gives = { λ e r. r ≡ stop_of e };
+
+    fn from(e: CallFault) -> Stop {
+        Stop {
+            number: i64::from(e.number()),
+            at: e.position(),
+        }
+    }
+}
+
+/// A line of the output: the number of the input's line, and the answer of its call or what stopped it.
+#[derive(Clone, Copy, PartialEq, Eq, Debug)]
+pub struct Report {
+    pub line: u32,
+    pub outcome: Result<i64, Stop>,
 }
 
 /// What the line of that number gave.
@@ -23,15 +39,11 @@ pub fn report_of(line: u32, res: Result<i64, LineFault>) -> Report
     match res {
         Ok(answer) => Report {
             line,
-            ok: true,
-            number: answer,
-            at: 0,
+            outcome: Ok(answer),
         },
         Err(LineFault { line, fault }) => Report {
             line,
-            ok: false,
-            number: fault.number() as i64,
-            at: fault.position(),
+            outcome: Err(Stop::from(fault)),
         },
     }
 }
@@ -41,9 +53,10 @@ impl fmt::Display for Report {
 
     fn fmt<W: fmt::Write>(&self, f: &mut fmt::Formatter<W>) -> fmt::Result {
         let line = self.line;
-        let state = if self.ok { "ok" } else { "no" };
-        let number = self.number;
-        let at = self.at;
+        let (state, number, at) = match self.outcome {
+            Ok(answer) => ("ok", answer, 0),
+            Err(Stop { number, at }) => ("no", number, at),
+        };
         write!(f, "{line} {state} {number} {at}")
     }
 }
@@ -54,8 +67,7 @@ pub fn output_of(heap: Global, reports: &[Report]) -> Result<String, AllocError>
 {
     let mut text = String::from_str(heap, "line state number at\n")?;
     for report in reports {
-        let line = format!(in heap; "{report}\n")?;
-        text.push_str(line.as_str())?;
+        writeln!(text, "{report}")?;
     }
     Ok(text)
 }

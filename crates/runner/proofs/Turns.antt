@@ -1,5 +1,5 @@
 -- Lines, one after another.
-use Rattle.std.proofs.Common.{◌≡◌, ℕ, suc, ◌+◌, List, [], ◌∷◌, ◌++◌, ℤ, Ok, Err, Result, sym, refl, ap, ◌∙◌, subst, add-one}
+use Rattle.std.proofs.Common.{◌≡◌, ℕ, suc, ◌+◌, ◌≤◌, Bool, true, false, cond, eqb, length, arith, append-nil, List, [], ◌∷◌, ◌++◌, ℤ, Ok, Err, Result, sym, refl, ap, ◌∙◌, subst, add-one}
 use Rattle.std.proofs.lemmas.List.{append_assoc}
 use Rattle.scheme.specs.Meaning.{Meaning}
 use Rattle.graph.specs.declared.Call.{Call}
@@ -14,7 +14,7 @@ use Rattle.report.specs.declared.line_faults.LineFault.{LineFault}
 use Rattle.report.specs.declared.reports.Report.{Report}
 use Rattle.report.specs.Faults.{on_line}
 use Rattle.report.specs.Loads.{answered, runs, told, heading, behind, loaded}
-use Rattle.lexer.specs.Pieces.{lines}
+use Rattle.lexer.specs.Pieces.{grown, lines}
 use Rattle.report.specs.Reports.{reported}
 use Rattle.heap.specs.Effects.{View}
 use Rattle.runner.specs.Runs.{StandsAt, AnswersLine, Reports}
@@ -26,16 +26,34 @@ line_at m c n l v w r W e line now stands =
     subst (λ (k : ℕ). (r ≡ on_line (answered (advance m k) now (parsed c l)).0 n) × StandsAt m w (answered (advance m k) now (parsed c l)).1) e (line.told now stands, line.stands now stands)
 
 -- one line more: what is left gives the same reports
-pub turn : (m : Meaning) (W : ℕ) (c : Columns) (n : ℕ) (goal items items' : List Report) (now : State) (l : List ℕ) (rest ls : List (List ℕ)) (x : Report) → rest ≡ l ∷ ls → items ++ runs (advance m W) now c n rest ≡ goal
-    → items' ≡ items ++ (x ∷ []) → x ≡ reported n (on_line (answered (advance m W) now (parsed c l)).0 n) → items' ++ runs (advance m W) (answered (advance m W) now (parsed c l)).1 c (n + 1) ls ≡ goal
-turn m W c n goal items items' now l rest ls x cut left pushed told =
-    let next = answered (advance m W) now (parsed c l) in
-    let first = reported n (on_line next.0 n) in
-    ap (λ (xs : List Report). xs ++ runs (advance m W) next.1 c (n + 1) ls) (pushed ∙ ap (λ (y : Report). items ++ (y ∷ [])) told)
-    ∙ append_assoc items (first ∷ []) (runs (advance m W) next.1 c (n + 1) ls)
-    ∙ ap (λ (k : ℕ). items ++ (first ∷ runs (advance m W) next.1 c k ls)) (add-one n)
+pub turn : (m : Meaning) (W : ℕ) (c : Columns) (n k k' : ℕ) (goal items items' : List Report) (now : State) (l : List ℕ) (rest ls : List (List ℕ)) (x : Report) → n ≡ k → k' ≡ n + 1 → rest ≡ l ∷ ls → items ++ runs (advance m W) now c k rest ≡ goal
+    → items' ≡ items ++ (x ∷ []) → x ≡ reported n (on_line (answered (advance m W) now (parsed c l)).0 n) → items' ++ runs (advance m W) (answered (advance m W) now (parsed c l)).1 c k' ls ≡ goal
+turn m W c n k k' goal items items' now l rest ls x is next cut left pushed told =
+    let then = answered (advance m W) now (parsed c l) in
+    let first = reported n (on_line then.0 n) in
+    ap (λ (k : ℕ). items' ++ runs (advance m W) then.1 c k ls) (next ∙ add-one n)
+    ∙ ap (λ (xs : List Report). xs ++ runs (advance m W) then.1 c (suc n) ls) (pushed ∙ ap (λ (y : Report). items ++ (y ∷ [])) told)
+    ∙ append_assoc items (first ∷ []) (runs (advance m W) then.1 c (suc n) ls)
     ∙ ap (λ (xs : List (List ℕ)). items ++ runs (advance m W) now c n xs) (sym cut)
+    ∙ ap (λ (k : ℕ). items ++ runs (advance m W) now c k rest) is
     ∙ left
+
+pub ended : (m : Meaning) (W : ℕ) (c : Columns) (k : ℕ) (goal items : List Report) (now : State) (rest : List (List ℕ)) → rest ≡ [] → items ++ runs (advance m W) now c k rest ≡ goal → items ≡ goal
+ended m W c k goal items now rest none left =
+    sym (append-nil items) ∙ ap (λ (xs : List (List ℕ)). items ++ runs (advance m W) now c k xs) (sym none) ∙ left
+
+-- a text has at most as many lines as bytes
+grown-within : (x n : ℕ) (ps : List (List ℕ)) → length ps ≤ n → length (grown x ps) ≤ suc n
+grown-within x n [] h = omega arith
+grown-within x n (p ∷ ps) h = omega arith
+
+within_by : (b : Bool) (x : ℕ) (xs : List ℕ) → length (lines xs) ≤ length xs → length (cond b ([] ∷ lines xs) (grown x (lines xs))) ≤ suc (length xs)
+within_by true x xs h = omega arith
+within_by false x xs h = grown-within x (length xs) (lines xs) h
+
+pub lines_within : (bs : List ℕ) → length (lines bs) ≤ length bs
+lines_within [] = omega arith
+lines_within (x ∷ xs) = within_by (eqb x 10) x xs (lines_within xs)
 
 -- the reports do not depend on what stands
 pub runs-agree : (m : Meaning) (W : ℕ) (c : Columns) (n : ℕ) (ls : List (List ℕ)) (st : State) → runs (advance m W) st c n ls ≡ runs (step m W) st.graph c n ls

@@ -11,7 +11,7 @@ ghost use Rattle.heap.specs.Views.{view};
 ghost use Rattle.runner.specs.Runs.{heap_words, Answers, AnswersLine, Reports};
 
 use heap::Heap;
-use lexer::lines::next_line;
+use lexer::lines::Lines;
 use load::calls::parse_line;
 use load::names::Columns;
 use memory::Memory;
@@ -22,7 +22,7 @@ use scheme::{Prefix, Scheme};
 use std::alloc::{AllocError, Global};
 
 /// The call of a line, given to the heap.
-fn run_text<M: Memory, S: Scheme>(
+pub fn give_line<M: Memory, S: Scheme>(
     heap: &mut Heap<M, S>,
     columns: &Columns,
     line: &[u8],
@@ -45,7 +45,7 @@ fn run_line<M: Memory, S: Scheme>(
     ensures answers { AnswersLine (S.Scheme.meaning heap.old.scheme) columns.now number line.now (view M.Memory.words heap.old) (view M.Memory.words heap.new) result }
     ensures scheme { heap.new.scheme ≡ heap.old.scheme }
 {
-    let answer = run_text(heap, columns, line).on(number)?;
+    let answer = give_line(heap, columns, line).on(number)?;
     Ok(answer)
 }
 
@@ -59,13 +59,9 @@ fn run_lines<M: Memory, S: Scheme>(
     requires { length text.now ≤ 65536 }
     ensures { OnOk result (Reports (S.Scheme.meaning heap.old.scheme) columns.now (lines text.now) (view M.Memory.words heap.old) reports.old.items reports.new.items) }
 {
-    let mut rest = text;
-    let mut number = 2;
-    while let Some((line, after)) = next_line(rest) {
+    for (number, line) in (2..).zip(Lines::over(text)) {
         let result = run_line(heap, columns, number, line);
         reports.push(report_of(number, result))?;
-        rest = after;
-        number += 1;
     }
     Ok(())
 }

@@ -1,18 +1,17 @@
-use Rattle.std.proofs.Common.{sym, ap, ◌∙◌, arith}
+use Rattle.std.proofs.Common.{◌≡◌, rules, tests, ap, ◌∙◌}
+use Rattle.std.specs.List.{position}
 use Rattle.std.specs.Option.{ok_or}
+use Rattle.std.proofs.lemmas.Iterator.{YieldsList-from_slice}
+use Rattle.std.proofs.lemmas.Iterator.Search.{position_from_yields_List}
 use Rattle.faults.specs.declared.TextFault.TheVariants.{NoNames}
-use Rattle.lexer.specs.Tokens.{held, said}
-use Rattle.load.proofs.Titles.{found, passed, none_left, further-none}
+use Rattle.lexer.specs.Tokens.{said}
+use Rattle.load.specs.Names.{is_word}
+use Rattle.load.proofs.Titles.{placed}
 use Rattle.load.proofs.names.place_of.Goals as goal
 
-pub loop-place-init : goal.loop-place-init
-loop-place-init c = further-none _
-
-pub returns-then-is_word : goal.returns-then-is_word
-returns-then-is_word c = ap (λ o. ok_or o NoNames) (found c.args.name.now (held c.args.tokens) c.loop-place.place (said c.at.result) (omega arith) c.at.ensures (sym c.is_word.ensures ∙ c.if-is_word.true) c.loop-place.invariant)
-
-pub loop-place-preserved : goal.loop-place-preserved
-loop-place-preserved c = passed c.args.name.now (held c.args.tokens) c.loop-place.place (said c.at.result) (omega arith) c.at.ensures (sym c.is_word.ensures ∙ c.if-is_word.false) c.loop-place.invariant
-
 pub returns : goal.returns
-returns c = ap (λ o. ok_or o NoNames) (none_left c.args.name.now (held c.args.tokens) c.loop-place.place (omega arith) c.loop-place.invariant)
+returns c =
+    let found : c.position.result ≡ position (λ t. is_word c.args.name.now (said t)) c.args.tokens.values
+    = position_from_yields_List (λ t. is_word c.args.name.now (said t)) _ _ c.position.result c.position.ensures.ran (YieldsList-from_slice c.args.tokens.values cc) (λ x b q k. search (rules, tests))
+    in
+    c.ok_or.ensures.value ∙ ap (λ o. ok_or o NoNames) (found ∙ placed c.args.name.now c.args.tokens.values)
