@@ -52,6 +52,11 @@ impl Still {
         }
     }
 
+    /// Where the graph's lists are kept.
+    pub(crate) fn heap(&self) -> Global {
+        self.heap
+    }
+
     pub fn words(&self) -> u32 {
         self.words
     }
@@ -60,7 +65,7 @@ impl Still {
         &self.handles
     }
 
-    pub fn objects(&self) -> &Vec<Object> {
+    pub fn objects(&self) -> &[Object] {
         &self.objects
     }
 
@@ -127,10 +132,10 @@ impl Still {
 impl Still {
     /// The value in the handle, which is the argument at this position.
     fn held(&self, handle: u32, at: u8) -> Result<Value, Refusal> {
-        match self.handles.get(handle as usize) {
-            Some(value) => Ok(*value),
-            None => Err(Refusal::NoHandle(at)),
-        }
+        self.handles
+            .get(handle as usize)
+            .copied()
+            .ok_or(Refusal::NoHandle(at))
     }
 
     fn object(&self, value: Value) -> Option<&Object> {
@@ -165,30 +170,30 @@ impl Still {
         match value {
             Value::Empty => Kind::Empty,
             Value::Number(_) => Kind::Number,
-            Value::Object(object) => match self.objects.get(object) {
-                Some(it) => it.kind(),
-                None => Kind::Empty,
-            },
+            Value::Object(object) => self.objects.get(object).map_or(Kind::Empty, Object::kind),
         }
     }
 
-    /// Value field i of the record in a handle at this position, with i at the next one.
+    /// Field i of the record in a handle at this position, with i at the next one.
+    fn field_in(&self, record: Value, field: u32, at: u8) -> Result<Field, Refusal> {
+        self.record_in(record, at)?
+            .fields
+            .get(field as usize)
+            .copied()
+            .ok_or(Refusal::NoField(at.saturating_add(1)))
+    }
+
     fn value_field(&self, record: Value, field: u32, at: u8) -> Result<Value, Refusal> {
-        let it = self.record_in(record, at)?;
-        match it.fields.get(field as usize) {
-            Some(Field::Value(value)) => Ok(*value),
-            Some(Field::Raw(_)) => Err(Refusal::OtherField(at.saturating_add(1))),
-            None => Err(Refusal::NoField(at.saturating_add(1))),
+        match self.field_in(record, field, at)? {
+            Field::Value(value) => Ok(value),
+            Field::Raw(_) => Err(Refusal::OtherField(at.saturating_add(1))),
         }
     }
 
-    /// Raw field i of the record in a handle at this position, with i at the next one.
     fn raw_field(&self, record: Value, field: u32, at: u8) -> Result<u32, Refusal> {
-        let it = self.record_in(record, at)?;
-        match it.fields.get(field as usize) {
-            Some(Field::Raw(word)) => Ok(*word),
-            Some(Field::Value(_)) => Err(Refusal::OtherField(at.saturating_add(1))),
-            None => Err(Refusal::NoField(at.saturating_add(1))),
+        match self.field_in(record, field, at)? {
+            Field::Raw(word) => Ok(word),
+            Field::Value(_) => Err(Refusal::OtherField(at.saturating_add(1))),
         }
     }
 }
@@ -216,7 +221,7 @@ impl Still {
     fn make(&mut self, target: u32, object: Object) -> Result<i64, Stop> {
         let live = self.live_words()?;
         if live.saturating_add(object.size()) > self.words {
-            return Err(Stop::Refused(Refusal::Full));
+            return Err(Refusal::Full.into());
         }
         let made = self.objects.len();
         self.objects.push(object)?;
@@ -227,16 +232,15 @@ impl Still {
     /// The fields of a new record: raw ones 0, the others empty.
     fn blank(&self, layout: Layout) -> Result<Vec<Field>, AllocError> {
         let rule = self.rule_of(layout);
-        let mut fields = Vec::new(self.heap);
-        for field in 0..layout.fields {
-            let blank = if self.rules.is_raw(rule, field) {
-                Field::Raw(0)
-            } else {
-                Field::Value(Value::Empty)
-            };
-            fields.push(blank)?;
-        }
-        Ok(fields)
+        (0..layout.fields)
+            .map(|field| {
+                if self.rules.is_raw(rule, field) {
+                    Field::Raw(0)
+                } else {
+                    Field::Value(Value::Empty)
+                }
+            })
+            .collect(self.heap)
     }
 
     fn rule_of(&self, layout: Layout) -> u32 {
@@ -251,8 +255,8 @@ impl Still {
 impl Still {
     fn num(&mut self, handle: u32, number: i32) -> Result<i64, Stop> {
         self.held(handle, 1)?;
-        if number < -536_870_912 || number > 536_870_911 {
-            return Err(Stop::Refused(Refusal::NoNumber(2)));
+        if !(-536_870_912..=536_870_911).contains(&number) {
+            return Err(Refusal::NoNumber(2).into());
         }
         self.hold(handle, Value::Number(number));
         Ok(0)
@@ -274,7 +278,7 @@ impl Still {
     fn make_map(&mut self, target: u32, rule: u32, name: u32, parent: u32) -> Result<i64, Stop> {
         self.held(target, 1)?;
         if !self.rules.admits(rule) {
-            return Err(Stop::Refused(Refusal::NoRule(2)));
+            return Err(Refusal::NoRule(2).into());
         }
         let name = self.held(name, 3)?;
         let parent = self.held(parent, 4)?;
@@ -287,12 +291,12 @@ impl Still {
     fn make_layout(&mut self, target: u32, fields: u32, map: u32) -> Result<i64, Stop> {
         self.held(target, 1)?;
         if fields > 32 {
-            return Err(Stop::Refused(Refusal::TooWide(2)));
+            return Err(Refusal::TooWide(2).into());
         }
         let map = self.held(map, 3)?;
         self.map_in(map, 3)?;
         let Value::Object(map) = map else {
-            return Err(Stop::Refused(Refusal::OtherKind(3)));
+            return Err(Refusal::OtherKind(3).into());
         };
         self.make(target, Object::Layout(Layout { fields, map }))
     }
@@ -302,7 +306,7 @@ impl Still {
         let value = self.held(layout, 2)?;
         let it = self.layout_in(value, 2)?;
         let Value::Object(layout) = value else {
-            return Err(Stop::Refused(Refusal::OtherKind(2)));
+            return Err(Refusal::OtherKind(2).into());
         };
         let fields = self.blank(it)?;
         self.make(target, Object::Record(Record { layout, fields }))
@@ -345,7 +349,7 @@ impl Still {
     fn value(&self, handle: u32) -> Result<i64, Stop> {
         match self.held(handle, 1)? {
             Value::Number(number) => Ok(i64::from(number)),
-            Value::Empty | Value::Object(_) => Err(Stop::Refused(Refusal::OtherKind(1))),
+            Value::Empty | Value::Object(_) => Err(Refusal::OtherKind(1).into()),
         }
     }
 
@@ -363,7 +367,7 @@ impl Still {
             1 => Value::Object(self.layout_in(whole, 2)?.map),
             2 => self.map_in(whole, 2)?.name,
             3 => self.map_in(whole, 2)?.parent,
-            _ => return Err(Stop::Refused(Refusal::NoPart(3))),
+            _ => return Err(Refusal::NoPart(3).into()),
         };
         self.hold(target, value);
         Ok(0)
@@ -375,7 +379,7 @@ impl Still {
             Some(Object::Record(it)) => Ok(i64::from(word_of(it.fields.len()))),
             Some(Object::Layout(it)) => Ok(i64::from(it.fields)),
             Some(Object::Map(it)) => Ok(i64::from(it.rule)),
-            None => Err(Stop::Refused(Refusal::OtherKind(1))),
+            None => Err(Refusal::OtherKind(1).into()),
         }
     }
 
@@ -400,12 +404,15 @@ impl Still {
     /// The sizes of all reachable objects, added.
     pub fn live_words(&self) -> Result<u32, AllocError> {
         let reachable = reachable(self.heap, &self.handles, &self.objects)?;
-        let mut live = 0u32;
-        for (object, reached) in self.objects.iter().zip(reachable.iter()) {
-            if *reached {
-                live = live.saturating_add(object.size());
-            }
-        }
-        Ok(live)
+        Ok(
+            self.objects
+                .iter()
+                .zip(&reachable)
+                .filter(|(_, reached)| **reached)
+                .fold(
+                    0,
+                    |live: u32, (object, _)| live.saturating_add(object.size()),
+                ),
+        )
     }
 }
