@@ -30,6 +30,7 @@ impl Ends {
 }
 
 /// The number in a header for this kind of object.
+// A match: these numbers belong to the layout of words, and are not those that the call `kind` answers.
 fn kind_bits(object: &Object) -> u32 {
     match object {
         Object::Record(_) => 0,

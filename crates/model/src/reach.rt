@@ -8,6 +8,7 @@ use std::alloc::{AllocError, Global};
 /// A walk: what it has seen, and the seen objects whose names it has not followed yet.
 #[derive(Drop)]
 pub struct Walk {
+    // a flag beside each object, which `zip` pairs with it: a set of positions would be asked for each object, and be no plainer
     seen: Vec<bool>,
     pending: Vec<usize>,
 }

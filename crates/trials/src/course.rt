@@ -59,6 +59,7 @@ impl fmt::Display for Extent {
 }
 
 /// A memory that was dirty, and what stands in it behind a heap's words.
+// An impl for each slice: one impl over a trait of cells would need two constants of each kind of cell, in place of one line of each.
 trait Dirty: Memory + Drop {
     /// Whether everything behind so many words is as it was.
     fn stays_behind(&self, used: usize) -> bool;

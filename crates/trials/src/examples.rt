@@ -20,6 +20,8 @@ pub struct Example {
     handles: &'static [(u32, u32)],
 }
 
+// A constant can call no function, so that each call is written out.
+
 // The calls of the worked example.
 const MAP: Call = Call::Map {
     target: 0,

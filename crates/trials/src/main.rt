@@ -44,9 +44,9 @@ fn try_examples(rt: &HostRuntime) -> io::Result<()> {
 }
 
 /// The loads under the scheme, over memories of these extents.
-fn try_loads<S: Modelled>(rt: &HostRuntime, scheme: S, extents: [Extent; 9]) -> io::Result<()> {
+fn try_loads<S: Modelled>(rt: &HostRuntime, scheme: S, extents: &[Extent]) -> io::Result<()> {
     for extent in extents {
-        let tally = over(rt.alloc(), extent, scheme)?;
+        let tally = over(rt.alloc(), *extent, scheme)?;
         println!(rt; "{}, {extent}, W {}: {tally}", S::NAME, extent.used())?;
     }
     Ok(())
@@ -56,8 +56,8 @@ fn main(rt: HostRuntime) -> io::Result<()> {
     let words = LENGTHS.map(|(words, _)| Extent::Words(words));
     let bytes = LENGTHS.map(|(words, left)| Extent::Bytes { words, left });
     try_examples(&rt)?;
-    try_loads(&rt, Prefix, words)?;
-    try_loads(&rt, Mask, words)?;
-    try_loads(&rt, Prefix, bytes)?;
-    try_loads(&rt, Mask, bytes)
+    try_loads(&rt, Prefix, &words)?;
+    try_loads(&rt, Mask, &words)?;
+    try_loads(&rt, Prefix, &bytes)?;
+    try_loads(&rt, Mask, &bytes)
 }

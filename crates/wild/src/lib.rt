@@ -12,9 +12,9 @@ use std::ops::Range;
 // The handles in which things are mostly kept.
 const MAPS: Range<u32> = 0..3;
 
-const LAYOUTS: Range<u32> = 3..7;
+pub const LAYOUTS: Range<u32> = 3..7;
 
-const RECORDS: Range<u32> = 7..19;
+pub const RECORDS: Range<u32> = 7..19;
 
 /// Handles for loaded values.
 const LOOSE: Range<u32> = 19..31;
@@ -63,7 +63,7 @@ impl Wild {
     }
 }
 
-// Arguments.
+// Arguments: their tables differ in how often each arm comes, so that one function for all would take a number for each that it saves.
 impl Wild {
     /// Mostly one of these handles; else any, among them 32 and 33, which are none.
     fn handle(&mut self, mostly: Range<u32>) -> u32
@@ -131,7 +131,7 @@ impl Wild {
     }
 }
 
-// Calls.
+// Calls: each a match on a drawn number, since each arm draws arguments of its own, and a table would need a closure for each.
 impl Wild {
     /// The next call.
     pub fn next_call(&mut self) -> Call {
