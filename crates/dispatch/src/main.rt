@@ -128,17 +128,28 @@ fn call_until_full<M: Memory, S: Scheme>(heap: &mut Heap<M, S>) -> (u32, Option<
 }
 
 fn show_refusal(rt: &HostRuntime, what: &str, refusal: Refusal) -> io::Result<()> {
-    let number = refusal.number();
-    let position = refusal.position();
-    println!(rt; "  {what}: refused with {number} at {position}")
+    println!(rt;
+        "  {what}: refused with {} at {}",
+        refusal.number(),
+        refusal.position()
+    )
+}
+
+/// Shows the refusal, if there is one.
+fn show_if_refused<T: Drop>(
+    rt: &HostRuntime,
+    what: &str,
+    outcome: Result<T, Refusal>,
+) -> io::Result<()> {
+    match outcome {
+        Ok(_) => Ok(()),
+        Err(refusal) => show_refusal(rt, what, refusal),
+    }
 }
 
 fn show_answered(rt: &HostRuntime, answered: Result<Answered, Refusal>) -> io::Result<()> {
     match answered {
-        Ok(call) => {
-            let floor = call.floor;
-            let time = call.time;
-            let home = call.home;
+        Ok(Answered { floor, time, home }) => {
             println!(rt; "  the car answers a call from floor {floor} of time {time}")?;
             println!(rt; "  the call leads back to its landing: {home}")
         }
@@ -151,9 +162,7 @@ fn begin_day<M: Memory, S: Scheme>(rt: &HostRuntime, heap: &mut Heap<M, S>) -> i
     show_answered(rt, set_up(heap))?;
     let fill = heap.fill();
     println!(rt; "  the heap is {fill} % full")?;
-    if let Err(refusal) = drop_call(heap) {
-        show_refusal(rt, "dropping the call", refusal)?;
-    }
+    show_if_refused(rt, "dropping the call", drop_call(heap))?;
     let fill = heap.fill();
     println!(rt; "  the call is dropped: {fill} %, as no one has packed yet")
 }
@@ -167,18 +176,14 @@ fn end_day<M: Memory, S: Scheme>(
 ) -> io::Result<()> {
     println!(rt; "  a collection given up knew of {begun} live words")?;
     println!(rt; "  one by steps packed {packed}")?;
-    if let Err(refusal) = make_call(heap) {
-        show_refusal(rt, "a second call", refusal)?;
-    }
+    show_if_refused(rt, "a second call", make_call(heap))?;
     show_answered(rt, follow_call(heap))?;
     let (made, full) = call_until_full(heap);
     println!(rt; "  {made} more calls, each naming the one before")?;
     if let Some(refusal) = full {
         show_refusal(rt, "one call more", refusal)?;
     }
-    if let Err(refusal) = drop_call(heap) {
-        show_refusal(rt, "dropping the calls", refusal)?;
-    }
+    show_if_refused(rt, "dropping the calls", drop_call(heap))?;
     let live = heap.collect();
     println!(rt; "  all calls dropped and collected: {live} live words")?;
     show_lamp(rt, heap)
@@ -190,13 +195,12 @@ fn show_lamp<M: Memory, S: Scheme>(rt: &HostRuntime, heap: &mut Heap<M, S>) -> i
         Ok(lamp) => println!(rt; "  the landing's lamp: {lamp}")?,
         Err(refusal) => show_refusal(rt, "the lamp", refusal)?,
     }
-    if let Err(refusal) = heap.load(NOTE, CALL, FLOOR) {
-        show_refusal(rt, "the floor of no call", refusal)?;
-    }
-    if let Err(refusal) = heap.rawload(CAR, FLOOR) {
-        show_refusal(rt, "the car's floor as a raw word", refusal)?;
-    }
-    Ok(())
+    show_if_refused(rt, "the floor of no call", heap.load(NOTE, CALL, FLOOR))?;
+    show_if_refused(
+        rt,
+        "the car's floor as a raw word",
+        heap.rawload(CAR, FLOOR),
+    )
 }
 
 /// A day over one memory and scheme.

@@ -41,22 +41,12 @@ mod tests {
         assert_eq!(rt; bytes, [1, 2, 3, 4, 255, 254, 253, 252, 9, 9, 9]);
     }
 
-    // The rules at their edges: whether admitted, whether fields 0, 30 and 31 are raw, and how many of 0, 31, 32 and 33 fields are.
+    // The rules at their edges: whether admitted, whether fields 0, 30, 31 and 32 are raw, and how many of 0, 31, 32 and 33 fields are.
     fn asked<S: Scheme>(scheme: &S, rule: u32) -> (bool, [bool; 4], [u32; 4]) {
         (
             scheme.admits(rule),
-            [
-                scheme.is_raw(rule, 0),
-                scheme.is_raw(rule, 30),
-                scheme.is_raw(rule, 31),
-                scheme.is_raw(rule, 32),
-            ],
-            [
-                scheme.raw_count(rule, 0),
-                scheme.raw_count(rule, 31),
-                scheme.raw_count(rule, 32),
-                scheme.raw_count(rule, 33),
-            ],
+            [0, 30, 31, 32].map(|field| scheme.is_raw(rule, field)),
+            [0, 31, 32, 33].map(|fields| scheme.raw_count(rule, fields)),
         )
     }
 

@@ -9,5 +9,6 @@ mod rules;
 mod still;
 
 pub use object::{Field, Layout, Map, Object, Record, Value};
+pub use packed::Packed;
 pub use rules::Rules;
 pub use still::Still;

@@ -40,6 +40,7 @@ pub struct Map {
 }
 
 /// An object of the graph.
+// Objects name each other by position and not by `Box`: they may form cycles, and the order of making is part of the rules.
 #[derive(Drop)]
 pub enum Object {
     Record(Record),

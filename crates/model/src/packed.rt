@@ -30,6 +30,7 @@ impl Ends {
 }
 
 /// The number in a header for this kind of object.
+// A match: these numbers belong to the layout of words, and are not those that the call `kind` answers.
 fn kind_bits(object: &Object) -> u32 {
     match object {
         Object::Record(_) => 0,
@@ -45,7 +46,7 @@ fn header(object: &Object) -> u32 {
 
 /// The word of a number, which is n × 4 + 1 modulo 2^32.
 fn number_word(number: i32) -> u32 {
-    u32::from_le_bytes(number.wrapping_mul(4).wrapping_add(1).to_le_bytes())
+    number.wrapping_mul(4).wrapping_add(1).cast_unsigned()
 }
 
 /// The reference to an object at this place.
@@ -60,28 +61,23 @@ fn reference(kind: Kind, place: u32) -> u32 {
 fn places(
     heap: Global,
     words: u32,
-    objects: &Vec<Object>,
-    reachable: &Vec<bool>,
+    objects: &[Object],
+    reachable: &[bool],
 ) -> Result<Vec<Option<u32>>, AllocError> {
     let mut ends = Ends {
         low: 0,
         high: words,
     };
-    let mut places = Vec::new(heap);
-    for (object, reached) in objects.iter().zip(reachable.iter()) {
-        let place = if *reached {
-            Some(ends.place(object))
-        } else {
-            None
-        };
-        places.push(place)?;
-    }
-    Ok(places)
+    objects
+        .iter()
+        .zip(reachable)
+        .map(|(object, reached)| reached.then(|| ends.place(object)))
+        .collect(heap)
 }
 
 /// Writes the words from the place on.
-fn write(memory: &mut Vec<u32>, place: u32, words: &Vec<u32>) {
-    for (word, old) in words.iter().zip(memory.iter_mut().skip(place as usize)) {
+fn write(memory: &mut [u32], place: u32, words: &[u32]) {
+    for (old, word) in memory.iter_mut().skip(place as usize).zip(words) {
         *old = *word;
     }
 }
@@ -89,8 +85,8 @@ fn write(memory: &mut Vec<u32>, place: u32, words: &Vec<u32>) {
 /// The objects with their places: what it takes to write a value as a word.
 #[derive(Clone, Copy)]
 struct Placed<'a> {
-    objects: &'a Vec<Object>,
-    places: &'a Vec<Option<u32>>,
+    objects: &'a [Object],
+    places: &'a [Option<u32>],
 }
 
 impl Placed<'_> {
@@ -123,9 +119,7 @@ impl Placed<'_> {
         record: &Record,
     ) -> Result<Vec<u32>, AllocError> {
         let mut words = vec![in heap; head, self.object_word(record.layout)]?;
-        for field in &record.fields {
-            words.push(self.field_word(*field))?;
-        }
+        words.extend(record.fields.iter().map(|field| self.field_word(*field)))?;
         Ok(words)
     }
 
@@ -147,17 +141,21 @@ impl Placed<'_> {
     }
 
     fn handle_words(&self, handles: &[Value; 32]) -> [u32; 32] {
-        let mut words = [0; 32];
-        for (word, value) in words.iter_mut().zip(handles.iter()) {
-            *word = self.value_word(*value);
-        }
-        words
+        handles.map(|value| self.value_word(value))
     }
 }
 
+/// The packed words: those of the memory, and those of the handles.
+#[derive(Drop)]
+pub struct Packed {
+    pub words: Vec<u32>,
+    pub handles: [u32; 32],
+}
+
 impl Still {
-    /// The packed words: those of the memory, and those of the handles.
-    pub fn packed(&self, heap: Global) -> Result<(Vec<u32>, [u32; 32]), AllocError> {
+    /// The words that the graph has when it is packed.
+    pub fn packed(&self) -> Result<Packed, AllocError> {
+        let heap = self.heap();
         let objects = self.objects();
         let reachable = reachable(heap, self.handles(), objects)?;
         let places = places(heap, self.words(), objects, &reachable)?;
@@ -165,14 +163,13 @@ impl Still {
             objects,
             places: &places,
         };
-        let mut memory = vec![in heap; 0; self.words() as usize]?;
-        for (object, place) in objects.iter().zip(places.iter()) {
+        let mut words = vec![in heap; 0; self.words() as usize]?;
+        for (object, place) in objects.iter().zip(&places) {
             if let Some(place) = place {
-                let words = placed.object_words(heap, object)?;
-                write(&mut memory, *place, &words);
+                write(&mut words, *place, &placed.object_words(heap, object)?);
             }
         }
         let handles = placed.handle_words(self.handles());
-        Ok((memory, handles))
+        Ok(Packed { words, handles })
     }
 }

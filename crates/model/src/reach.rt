@@ -1,10 +1,14 @@
 // Which objects are reachable.
+ghost use Rattle.std.specs.Prelude.{◌≤◌};
+ghost use Rattle.model.specs.Walks.{work};
+
 use crate::object::{Field, Object, Value};
 use std::alloc::{AllocError, Global};
 
 /// A walk: what it has seen, and the seen objects whose names it has not followed yet.
 #[derive(Drop)]
 pub struct Walk {
+    // a flag beside each object, which `zip` pairs with it: a set of positions would be asked for each object, and be no plainer
     seen: Vec<bool>,
     pending: Vec<usize>,
 }
@@ -20,17 +24,19 @@ impl Walk {
     }
 
     /// Notes an object that is named.
-    fn meet(&mut self, object: usize) -> Result<(), AllocError> {
-        if let Some(seen) = self.seen.get_mut(object) {
-            if !*seen {
-                *seen = true;
-                self.pending.push(object)?;
-            }
+    fn meet(&mut self, object: usize) -> Result<(), AllocError>
+        ensures { work self.new ≤ work self.old }
+    {
+        if object < self.seen.len() && !self.seen[object] {
+            self.seen[object] = true;
+            self.pending.push(object)?;
         }
         Ok(())
     }
 
-    fn meet_value(&mut self, value: Value) -> Result<(), AllocError> {
+    fn meet_value(&mut self, value: Value) -> Result<(), AllocError>
+        ensures { work self.new ≤ work self.old }
+    {
         match value {
             Value::Object(object) => self.meet(object),
             Value::Empty | Value::Number(_) => Ok(()),
@@ -38,7 +44,9 @@ impl Walk {
     }
 
     /// Notes all that the value fields name.
-    fn meet_fields(&mut self, fields: &Vec<Field>) -> Result<(), AllocError> {
+    fn meet_fields(&mut self, fields: &[Field]) -> Result<(), AllocError>
+        ensures { work self.new ≤ work self.old }
+    {
         for field in fields {
             if let Field::Value(value) = field {
                 self.meet_value(*value)?;
@@ -48,7 +56,9 @@ impl Walk {
     }
 
     /// Notes all that the object names.
-    fn follow(&mut self, object: &Object) -> Result<(), AllocError> {
+    fn follow(&mut self, object: &Object) -> Result<(), AllocError>
+        ensures { work self.new ≤ work self.old }
+    {
         match object {
             Object::Record(it) => {
                 self.meet(it.layout)?;
@@ -74,15 +84,11 @@ impl Walk {
 pub fn reachable(
     heap: Global,
     handles: &[Value; 32],
-    objects: &Vec<Object>,
+    objects: &[Object],
 ) -> Result<Vec<bool>, AllocError> {
     let mut walk = Walk::among(heap, objects.len())?;
     walk.meet_handles(handles)?;
-    // each object is pending at most once
-    for _ in 0..objects.len() {
-        let Some(next) = walk.pending.pop() else {
-            break;
-        };
+    while let Some(next) = walk.pending.pop() {
         if let Some(object) = objects.get(next) {
             walk.follow(object)?;
         }

@@ -1,4 +1,5 @@
 // What a map's rule says of the fields of its records.
+use crate::object::word_of;
 
 /// Which scheme the graph goes by.
 #[derive(Clone, Copy)]
@@ -28,12 +29,10 @@ impl Rules {
 
     /// How many of the first fields are raw: asked one by one.
     pub fn raws(self, rule: u32, fields: u32) -> u32 {
-        let mut count = 0u32;
-        for field in 0..fields {
-            if self.is_raw(rule, field) {
-                count = count.saturating_add(1);
-            }
-        }
-        count
+        word_of(
+            (0..fields)
+                .filter(|field| self.is_raw(rule, *field))
+                .count(),
+        )
     }
 }

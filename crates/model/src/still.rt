@@ -52,6 +52,11 @@ impl Still {
         }
     }
 
+    /// Where the graph's lists are kept.
+    pub(crate) fn heap(&self) -> Global {
+        self.heap
+    }
+
     pub fn words(&self) -> u32 {
         self.words
     }
@@ -60,7 +65,7 @@ impl Still {
         &self.handles
     }
 
-    pub fn objects(&self) -> &Vec<Object> {
+    pub fn objects(&self) -> &[Object] {
         &self.objects
     }
 
@@ -73,6 +78,7 @@ impl Still {
         }
     }
 
+    // A match: the calls are the variants of an enum with arguments of their own, so a table of closures would have to take them apart too.
     fn answer(&mut self, call: Call) -> Result<i64, Stop> {
         match call {
             Call::Num { handle, number } => self.num(handle, number),
@@ -123,41 +129,62 @@ impl Still {
     }
 }
 
+/// What a handle holds, and the position of the argument that named the handle.
+#[derive(Clone, Copy)]
+struct Held {
+    value: Value,
+    at: u8,
+}
+
+impl Held {
+    /// The refusal of a handle that holds another kind than the call needs.
+    fn other_kind(self) -> Refusal {
+        Refusal::OtherKind(self.at)
+    }
+
+    /// The position of the field number, which follows its record.
+    fn field_at(self) -> u8 {
+        self.at.saturating_add(1)
+    }
+}
+
 // What the calls hold their arguments to.
 impl Still {
-    /// The value in the handle, which is the argument at this position.
-    fn held(&self, handle: u32, at: u8) -> Result<Value, Refusal> {
+    /// What the handle holds that is the argument at this position.
+    fn held(&self, handle: u32, at: u8) -> Result<Held, Refusal> {
         match self.handles.get(handle as usize) {
-            Some(value) => Ok(*value),
+            Some(value) => Ok(Held { value: *value, at }),
             None => Err(Refusal::NoHandle(at)),
         }
     }
 
-    fn object(&self, value: Value) -> Option<&Object> {
+    /// The object that the value refers to, with its position.
+    fn object(&self, value: Value) -> Option<(usize, &Object)> {
         match value {
-            Value::Object(object) => self.objects.get(object),
+            Value::Object(object) => Some((object, self.objects.get(object)?)),
             Value::Empty | Value::Number(_) => None,
         }
     }
 
-    fn record_in(&self, value: Value, at: u8) -> Result<&Record, Refusal> {
-        match self.object(value) {
-            Some(Object::Record(it)) => Ok(it),
-            _ => Err(Refusal::OtherKind(at)),
+    // Three look-ups that differ in a variant: no parameter can name one, so one for all would take a function from objects for each.
+    fn record_in(&self, held: Held) -> Result<&Record, Refusal> {
+        match self.object(held.value) {
+            Some((_, Object::Record(it))) => Ok(it),
+            _ => Err(held.other_kind()),
         }
     }
 
-    fn layout_in(&self, value: Value, at: u8) -> Result<Layout, Refusal> {
-        match self.object(value) {
-            Some(Object::Layout(it)) => Ok(*it),
-            _ => Err(Refusal::OtherKind(at)),
+    fn layout_in(&self, held: Held) -> Result<&Layout, Refusal> {
+        match self.object(held.value) {
+            Some((_, Object::Layout(it))) => Ok(it),
+            _ => Err(held.other_kind()),
         }
     }
 
-    fn map_in(&self, value: Value, at: u8) -> Result<Map, Refusal> {
-        match self.object(value) {
-            Some(Object::Map(it)) => Ok(*it),
-            _ => Err(Refusal::OtherKind(at)),
+    fn map_in(&self, held: Held) -> Result<&Map, Refusal> {
+        match self.object(held.value) {
+            Some((_, Object::Map(it))) => Ok(it),
+            _ => Err(held.other_kind()),
         }
     }
 
@@ -165,30 +192,30 @@ impl Still {
         match value {
             Value::Empty => Kind::Empty,
             Value::Number(_) => Kind::Number,
-            Value::Object(object) => match self.objects.get(object) {
-                Some(it) => it.kind(),
-                None => Kind::Empty,
-            },
+            Value::Object(object) => self.objects.get(object).map_or(Kind::Empty, Object::kind),
         }
     }
 
-    /// Value field i of the record in a handle at this position, with i at the next one.
-    fn value_field(&self, record: Value, field: u32, at: u8) -> Result<Value, Refusal> {
-        let it = self.record_in(record, at)?;
-        match it.fields.get(field as usize) {
-            Some(Field::Value(value)) => Ok(*value),
-            Some(Field::Raw(_)) => Err(Refusal::OtherField(at.saturating_add(1))),
-            None => Err(Refusal::NoField(at.saturating_add(1))),
+    /// The field of the record.
+    fn field_in(&self, record: Held, field: u32) -> Result<Field, Refusal> {
+        self.record_in(record)?
+            .fields
+            .get(field as usize)
+            .copied()
+            .ok_or(Refusal::NoField(record.field_at()))
+    }
+
+    fn value_field(&self, record: Held, field: u32) -> Result<Value, Refusal> {
+        match self.field_in(record, field)? {
+            Field::Value(value) => Ok(value),
+            Field::Raw(_) => Err(Refusal::OtherField(record.field_at())),
         }
     }
 
-    /// Raw field i of the record in a handle at this position, with i at the next one.
-    fn raw_field(&self, record: Value, field: u32, at: u8) -> Result<u32, Refusal> {
-        let it = self.record_in(record, at)?;
-        match it.fields.get(field as usize) {
-            Some(Field::Raw(word)) => Ok(*word),
-            Some(Field::Value(_)) => Err(Refusal::OtherField(at.saturating_add(1))),
-            None => Err(Refusal::NoField(at.saturating_add(1))),
+    fn raw_field(&self, record: Held, field: u32) -> Result<u32, Refusal> {
+        match self.field_in(record, field)? {
+            Field::Raw(word) => Ok(word),
+            Field::Value(_) => Err(Refusal::OtherField(record.field_at())),
         }
     }
 }
@@ -216,7 +243,7 @@ impl Still {
     fn make(&mut self, target: u32, object: Object) -> Result<i64, Stop> {
         let live = self.live_words()?;
         if live.saturating_add(object.size()) > self.words {
-            return Err(Stop::Refused(Refusal::Full));
+            return Err(Refusal::Full.into());
         }
         let made = self.objects.len();
         self.objects.push(object)?;
@@ -225,21 +252,20 @@ impl Still {
     }
 
     /// The fields of a new record: raw ones 0, the others empty.
-    fn blank(&self, layout: Layout) -> Result<Vec<Field>, AllocError> {
+    fn blank(&self, layout: &Layout) -> Result<Vec<Field>, AllocError> {
         let rule = self.rule_of(layout);
-        let mut fields = Vec::new(self.heap);
-        for field in 0..layout.fields {
-            let blank = if self.rules.is_raw(rule, field) {
-                Field::Raw(0)
-            } else {
-                Field::Value(Value::Empty)
-            };
-            fields.push(blank)?;
-        }
-        Ok(fields)
+        (0..layout.fields)
+            .map(|field| {
+                if self.rules.is_raw(rule, field) {
+                    Field::Raw(0)
+                } else {
+                    Field::Value(Value::Empty)
+                }
+            })
+            .collect(self.heap)
     }
 
-    fn rule_of(&self, layout: Layout) -> u32 {
+    fn rule_of(&self, layout: &Layout) -> u32 {
         match self.objects.get(layout.map) {
             Some(Object::Map(it)) => it.rule,
             _ => 0,
@@ -251,8 +277,8 @@ impl Still {
 impl Still {
     fn num(&mut self, handle: u32, number: i32) -> Result<i64, Stop> {
         self.held(handle, 1)?;
-        if number < -536_870_912 || number > 536_870_911 {
-            return Err(Stop::Refused(Refusal::NoNumber(2)));
+        if !(-536_870_912..=536_870_911).contains(&number) {
+            return Err(Refusal::NoNumber(2).into());
         }
         self.hold(handle, Value::Number(number));
         Ok(0)
@@ -266,43 +292,42 @@ impl Still {
 
     fn copy(&mut self, target: u32, source: u32) -> Result<i64, Stop> {
         self.held(target, 1)?;
-        let value = self.held(source, 2)?;
-        self.hold(target, value);
+        let source = self.held(source, 2)?;
+        self.hold(target, source.value);
         Ok(0)
     }
 
     fn make_map(&mut self, target: u32, rule: u32, name: u32, parent: u32) -> Result<i64, Stop> {
         self.held(target, 1)?;
         if !self.rules.admits(rule) {
-            return Err(Stop::Refused(Refusal::NoRule(2)));
+            return Err(Refusal::NoRule(2).into());
         }
-        let name = self.held(name, 3)?;
+        let name = self.held(name, 3)?.value;
         let parent = self.held(parent, 4)?;
-        if parent != Value::Empty {
-            self.map_in(parent, 4)?;
+        if parent.value != Value::Empty {
+            self.map_in(parent)?;
         }
+        let parent = parent.value;
         self.make(target, Object::Map(Map { rule, name, parent }))
     }
 
     fn make_layout(&mut self, target: u32, fields: u32, map: u32) -> Result<i64, Stop> {
         self.held(target, 1)?;
         if fields > 32 {
-            return Err(Stop::Refused(Refusal::TooWide(2)));
+            return Err(Refusal::TooWide(2).into());
         }
         let map = self.held(map, 3)?;
-        self.map_in(map, 3)?;
-        let Value::Object(map) = map else {
-            return Err(Stop::Refused(Refusal::OtherKind(3)));
+        let Some((map, Object::Map(_))) = self.object(map.value) else {
+            return Err(map.other_kind().into());
         };
         self.make(target, Object::Layout(Layout { fields, map }))
     }
 
     fn make_record(&mut self, target: u32, layout: u32) -> Result<i64, Stop> {
         self.held(target, 1)?;
-        let value = self.held(layout, 2)?;
-        let it = self.layout_in(value, 2)?;
-        let Value::Object(layout) = value else {
-            return Err(Stop::Refused(Refusal::OtherKind(2)));
+        let layout = self.held(layout, 2)?;
+        let Some((layout, Object::Layout(it))) = self.object(layout.value) else {
+            return Err(layout.other_kind().into());
         };
         let fields = self.blank(it)?;
         self.make(target, Object::Record(Record { layout, fields }))
@@ -311,77 +336,78 @@ impl Still {
     fn load(&mut self, target: u32, record: u32, field: u32) -> Result<i64, Stop> {
         self.held(target, 1)?;
         let record = self.held(record, 2)?;
-        let value = self.value_field(record, field, 2)?;
+        let value = self.value_field(record, field)?;
         self.hold(target, value);
         Ok(0)
     }
 
     fn save(&mut self, record: u32, field: u32, source: u32) -> Result<i64, Stop> {
         let record = self.held(record, 1)?;
-        let value = self.held(source, 3)?;
-        self.value_field(record, field, 1)?;
-        self.set_field(record, field, Field::Value(value));
+        let source = self.held(source, 3)?;
+        self.value_field(record, field)?;
+        self.set_field(record.value, field, Field::Value(source.value));
         Ok(0)
     }
 
     fn raw_load(&self, record: u32, field: u32) -> Result<i64, Stop> {
         let record = self.held(record, 1)?;
-        let word = self.raw_field(record, field, 1)?;
+        let word = self.raw_field(record, field)?;
         Ok(i64::from(word))
     }
 
     fn raw_save(&mut self, record: u32, field: u32, word: u32) -> Result<i64, Stop> {
         let record = self.held(record, 1)?;
-        self.raw_field(record, field, 1)?;
-        self.set_field(record, field, Field::Raw(word));
+        self.raw_field(record, field)?;
+        self.set_field(record.value, field, Field::Raw(word));
         Ok(0)
     }
 
     fn kind(&self, handle: u32) -> Result<i64, Stop> {
-        let value = self.held(handle, 1)?;
-        Ok(i64::from(self.kind_of(value).number()))
+        let held = self.held(handle, 1)?;
+        Ok(i64::from(self.kind_of(held.value).number()))
     }
 
     fn value(&self, handle: u32) -> Result<i64, Stop> {
-        match self.held(handle, 1)? {
+        let held = self.held(handle, 1)?;
+        match held.value {
             Value::Number(number) => Ok(i64::from(number)),
-            Value::Empty | Value::Object(_) => Err(Stop::Refused(Refusal::OtherKind(1))),
+            Value::Empty | Value::Object(_) => Err(held.other_kind().into()),
         }
     }
 
     fn same(&self, first: u32, second: u32) -> Result<i64, Stop> {
         let first = self.held(first, 1)?;
         let second = self.held(second, 2)?;
-        Ok(i64::from(first == second))
+        Ok(i64::from(first.value == second.value))
     }
 
     fn part(&mut self, target: u32, object: u32, part: u32) -> Result<i64, Stop> {
         self.held(target, 1)?;
         let whole = self.held(object, 2)?;
         let value = match part {
-            0 => Value::Object(self.record_in(whole, 2)?.layout),
-            1 => Value::Object(self.layout_in(whole, 2)?.map),
-            2 => self.map_in(whole, 2)?.name,
-            3 => self.map_in(whole, 2)?.parent,
-            _ => return Err(Stop::Refused(Refusal::NoPart(3))),
+            0 => Value::Object(self.record_in(whole)?.layout),
+            1 => Value::Object(self.layout_in(whole)?.map),
+            2 => self.map_in(whole)?.name,
+            3 => self.map_in(whole)?.parent,
+            _ => return Err(Refusal::NoPart(3).into()),
         };
         self.hold(target, value);
         Ok(0)
     }
 
     fn figure(&self, handle: u32) -> Result<i64, Stop> {
-        let value = self.held(handle, 1)?;
-        match self.object(value) {
-            Some(Object::Record(it)) => Ok(i64::from(word_of(it.fields.len()))),
-            Some(Object::Layout(it)) => Ok(i64::from(it.fields)),
-            Some(Object::Map(it)) => Ok(i64::from(it.rule)),
-            None => Err(Stop::Refused(Refusal::OtherKind(1))),
+        let held = self.held(handle, 1)?;
+        match self.object(held.value) {
+            Some((_, Object::Record(it))) => Ok(i64::from(word_of(it.fields.len()))),
+            Some((_, Object::Layout(it))) => Ok(i64::from(it.fields)),
+            Some((_, Object::Map(it))) => Ok(i64::from(it.rule)),
+            None => Err(held.other_kind().into()),
         }
     }
 
     fn raws(&self, handle: u32) -> Result<i64, Stop> {
-        let value = self.held(handle, 1)?;
-        let layout = self.layout_in(value, 1)?;
+        let held = self.held(handle, 1)?;
+        let layout = self.layout_in(held)?;
         let rule = self.rule_of(layout);
         Ok(i64::from(self.rules.raws(rule, layout.fields)))
     }
@@ -400,12 +426,15 @@ impl Still {
     /// The sizes of all reachable objects, added.
     pub fn live_words(&self) -> Result<u32, AllocError> {
         let reachable = reachable(self.heap, &self.handles, &self.objects)?;
-        let mut live = 0u32;
-        for (object, reached) in self.objects.iter().zip(reachable.iter()) {
-            if *reached {
-                live = live.saturating_add(object.size());
-            }
-        }
-        Ok(live)
+        Ok(
+            self.objects
+                .iter()
+                .zip(&reachable)
+                .filter(|(_, reached)| **reached)
+                .fold(
+                    0,
+                    |live: u32, (object, _)| live.saturating_add(object.size()),
+                ),
+        )
     }
 }

@@ -6,20 +6,19 @@ mod tests {
     use marking::{begin, give_up};
     use memory::Memory;
     use scheme::Prefix;
-    use space::Space;
+    use space::{ADDRESSES, Space, WORDS};
 
-    fn write<M: Memory>(space: &mut Space<M>, words: &[u32; 62]) {
-        for (place, word) in words.iter().enumerate() {
-            space.store(place as u32, *word);
+    // Writes the words from the place on.
+    fn write<M: Memory>(space: &mut Space<M>, from: u32, words: &[u32]) {
+        for (place, word) in (from..).zip(words) {
+            space.store(place, *word);
         }
     }
 
     fn has<M: Memory>(space: &Space<M>, words: &[u32; 62]) -> bool {
-        let mut same = true;
-        for (place, word) in words.iter().enumerate() {
-            same = same && space.look(place as u32) == *word;
-        }
-        same
+        (0..62)
+            .zip(words)
+            .all(|(place, word)| space.look(place) == *word)
     }
 
     // The reference with the tag to a place.
@@ -59,11 +58,11 @@ mod tests {
             0, 0, 0, 0, 0, 0, 0, 0, 0, 0, 0, 0, 0, 0, 0, 0, 0, 0, 0, 0, 0, 0, 0, 0, 89, 0, 21, 223,
             5, 69, 3, 223, 4, 89, 1, 2, 0, 5, 99, 98,
         ];
-        write(space, &before);
-        space.store(16384, 62);
-        space.store(16387, 151);
-        space.store(16391, 13);
-        space.store(16415, 62);
+        write(space, 0, &before);
+        space.store(WORDS, 62);
+        space.store(WORDS + 3, 151);
+        space.store(WORDS + 7, 13);
+        space.store(WORDS + 31, 62);
         let told = begin(space, &Prefix, 60, 25, 32);
         give_up(space, 60, 25, 32);
         let back = has(space, &before);
@@ -72,10 +71,10 @@ mod tests {
             && back
             && collected
             && has(space, &after)
-            && space.look(16384) == 22
-            && space.look(16387) == 187
-            && space.look(16391) == 13
-            && space.look(16415) == 22
+            && space.look(WORDS) == 22
+            && space.look(WORDS + 3) == 187
+            && space.look(WORDS + 7) == 13
+            && space.look(WORDS + 31) == 22
     }
 
     fn clear<M: Memory>(space: &mut Space<M>, limit: u32) {
@@ -84,33 +83,21 @@ mod tests {
         }
     }
 
-    fn write_class<M: Memory>(space: &mut Space<M>, place: u32, words: [u32; 5]) {
-        for (i, word) in words.iter().enumerate() {
-            space.store(place.wrapping_add(i as u32), *word);
-        }
-    }
-
     fn write_layout<M: Memory>(space: &mut Space<M>, place: u32, fields: u32, map: u32) {
-        space.store(place, 69);
-        space.store(place.wrapping_add(1), fields);
-        space.store(place.wrapping_add(2), reference(map, 3));
-        space.store(place.wrapping_add(3), 4);
+        write(space, place, &[69, fields, reference(map, 3), 4]);
     }
 
     // A record of so many fields, its layout at the place.
     fn head<M: Memory>(space: &mut Space<M>, place: u32, fields: u32, layout: u32) {
-        space.store(
-            place,
-            fields.wrapping_add(2).wrapping_mul(16).wrapping_add(1),
-        );
-        space.store(place.wrapping_add(1), reference(layout, 3));
+        let header = fields.wrapping_add(2).wrapping_mul(16).wrapping_add(1);
+        write(space, place, &[header, reference(layout, 3)]);
     }
 
     // Records of one field, each naming the next.
     fn chain<M: Memory>(space: &mut Space<M>, base: u32, limit: u32) {
         clear(space, limit);
         let map = limit.wrapping_sub(5);
-        write_class(space, map, [89, 0, 0, 0, 5]);
+        write(space, map, &[89, 0, 0, 0, 5]);
         write_layout(space, limit.wrapping_sub(9), 1, map);
         for i in 0..70u32 {
             let place = base.wrapping_add(i * 3);
@@ -122,7 +109,7 @@ mod tests {
             };
             space.store(place.wrapping_add(2), next);
         }
-        space.store(16384, reference(base, 2));
+        space.store(WORDS, reference(base, 2));
     }
 
     // Each handle but the last names an empty record; the last names a record of 31 empty ones and, in its last field, of one with 32 records of one field, which
@@ -133,7 +120,7 @@ mod tests {
         let none = limit.wrapping_sub(9);
         let one = limit.wrapping_sub(13);
         let many = limit.wrapping_sub(17);
-        write_class(space, map, [89, 0, 0, 0, 5]);
+        write(space, map, &[89, 0, 0, 0, 5]);
         write_layout(space, none, 0, map);
         write_layout(space, one, 1, map);
         write_layout(space, many, 32, map);
@@ -149,7 +136,7 @@ mod tests {
             let handled = if i == 31 { base } else { held };
             space.store(base.wrapping_add(2 + i), reference(named, 2));
             space.store(second.wrapping_add(2 + i), reference(stem, 2));
-            space.store(16384 + i, reference(handled, 2));
+            space.store(WORDS + i, reference(handled, 2));
             if i < 31 {
                 head(space, held, 0, none);
                 head(space, leaf, 0, none);
@@ -183,27 +170,22 @@ mod tests {
         let none = collects(space, 0, 0, 0, 0, (0, 0)) && space.look(0) == 5 && space.look(1) == 6;
         head(space, 0, 0, 2);
         write_layout(space, 2, 0, 6);
-        write_class(space, 6, [89, 0, 2, 0, 5]);
-        space.store(16400, reference(2, 3));
+        write(space, 6, &[89, 0, 2, 0, 5]);
+        space.store(WORDS + 16, reference(2, 3));
         none && collects(space, 11, 2, 2, 11, (2, 2))
             && space.look(0) == 33
             && space.look(1) == 11
             && space.look(2) == 69
             && space.look(4) == 27
             && space.look(8) == 2
-            && space.look(16400) == 11
+            && space.look(WORDS + 16) == 11
     }
 
     // Whether two spaces have the same words and handles.
     fn alike<M: Memory, N: Memory>(first: &Space<M>, second: &Space<N>, limit: u32) -> bool {
-        let mut same = true;
-        for place in 0..limit {
-            same = same && first.look(place) == second.look(place);
-        }
-        for handle in 16384..16416u32 {
-            same = same && first.look(handle) == second.look(handle);
-        }
-        same
+        (0..limit)
+            .chain(WORDS..ADDRESSES)
+            .all(|place| first.look(place) == second.look(place))
     }
 
     // All of them, one after the other in the same space.
@@ -218,14 +200,11 @@ mod tests {
         [fanned, chained, bounds, mixed(space)]
     }
 
-    #[test]
-    fn over_words(rt: HostRuntime) {
-        let mut first = [0; 371];
-        let mut second = [0; 371];
-        let words: &mut [u32] = &mut first;
-        let other_words: &mut [u32] = &mut second;
-        let mut space = Space::new(words);
-        let mut other = Space::new(other_words);
+    // All of them over a memory of 371 words, beside a space over words.
+    fn pass_over<M: Memory + Drop>(memory: M) -> [bool; 4] {
+        let mut words = [0u32; 371];
+        let mut space = Space::new(memory);
+        let mut other = Space::new(&mut words[..]);
         let passed = passes(&mut space, &mut other);
         let Space {
             memory: _,
@@ -235,26 +214,18 @@ mod tests {
             memory: _,
             handles: _,
         } = other;
-        assert_eq!(rt; passed, [true; 4]);
+        passed
+    }
+
+    #[test]
+    fn over_words(rt: HostRuntime) {
+        let mut words = [0u32; 371];
+        assert_eq!(rt; pass_over(&mut words[..]), [true; 4]);
     }
 
     #[test]
     fn over_bytes(rt: HostRuntime) {
-        let mut first = [0; 1484];
-        let mut second = [0; 371];
-        let bytes: &mut [u8] = &mut first;
-        let words: &mut [u32] = &mut second;
-        let mut space = Space::new(bytes);
-        let mut other = Space::new(words);
-        let passed = passes(&mut space, &mut other);
-        let Space {
-            memory: _,
-            handles: _,
-        } = space;
-        let Space {
-            memory: _,
-            handles: _,
-        } = other;
-        assert_eq!(rt; passed, [true; 4]);
+        let mut bytes = [0u8; 1484];
+        assert_eq!(rt; pass_over(&mut bytes[..]), [true; 4]);
     }
 }

@@ -1,6 +1,7 @@
 // The heap beside the model: the same calls to both, and the first thing in which they differ.
+use crate::answered::{Answered, Change};
 use crate::picture::Picture;
-use graph::{Call, Outcome, Refusal};
+use graph::{Call, Outcome};
 use heap::Heap;
 use memory::Memory;
 use model::{Rules, Still};
@@ -12,106 +13,66 @@ use std::fmt;
 #[derive(Clone, Copy)]
 pub enum Difference {
     /// What a call answers.
-    Answer {
-        call: Call,
-        heap: Outcome,
-        model: Outcome,
-    },
+    Answer { heap: Answered, model: Outcome },
     /// A word of the memory once it is packed.
-    Word {
-        place: u32,
-        heap: u32,
-        model: u32,
-    },
+    Word(Other),
     /// A word of the handles once the heap is packed.
-    Handle {
-        handle: u32,
-        heap: u32,
-        model: u32,
-    },
+    Handle(Other),
     /// Words that the call may not change.
     Changed(Call),
     /// The model found no room to work in: it is not known whether they agree.
     NoRoom,
 }
 
+/// A word that is another in the heap than in the model.
+#[derive(Clone, Copy)]
+pub struct Other {
+    place: u32,
+    heap: u32,
+    model: u32,
+}
+
+impl From<AllocError> for Difference {
+    fn from(_: AllocError) -> Difference {
+        Difference::NoRoom
+    }
+}
+
 impl fmt::Display for Difference {
     fn fmt<W: fmt::Write>(&self, f: &mut fmt::Formatter<W>) -> fmt::Result {
         match self {
-            Difference::Answer { call, heap, model } => {
-                write!(f, "{call:?} answers {heap:?} and not {model:?}")
-            }
-            Difference::Word { place, heap, model } => {
-                write!(f, "word {place} is {heap} and not {model}")
-            }
-            Difference::Handle {
-                handle,
-                heap,
+            Difference::Answer {
+                heap: Answered { call, answer },
                 model,
-            } => write!(f, "handle {handle} is {heap} and not {model}"),
+            } => write!(f, "{call:?} answers {answer:?} and not {model:?}"),
+            Difference::Word(word) => write!(f, "word {word}"),
+            Difference::Handle(handle) => write!(f, "handle {handle}"),
             Difference::Changed(call) => write!(f, "{call:?} changes words that it may not"),
             Difference::NoRoom => write!(f, "no room for the model"),
         }
     }
 }
 
-/// Whether the words are the packed ones after the call.
-fn packs(call: Call, answer: Outcome) -> bool {
-    match (call, answer) {
-        (Call::Collect, _) | (Call::Stepped, _) => true,
-        (_, Err(Refusal::Full)) => true,
-        _ => false,
+impl fmt::Display for Other {
+    fn fmt<W: fmt::Write>(&self, f: &mut fmt::Formatter<W>) -> fmt::Result {
+        let Other { place, heap, model } = self;
+        write!(f, "{place} is {heap} and not {model}")
     }
 }
 
-/// The first word of the memory that differs from the packed ones.
-fn compare_memory<M: Memory, S: Scheme>(
-    heap: &Heap<M, S>,
-    packed: &Vec<u32>,
-) -> Option<Difference> {
-    for (place, word) in (0..16_384u32).zip(packed.iter()) {
-        let stands = heap.word(place);
-        if stands != *word {
-            return Some(Difference::Word {
-                place,
-                heap: stands,
-                model: *word,
-            });
-        }
-    }
-    None
-}
-
-/// The first word of the handles that differs from the packed ones.
-fn compare_handles<M: Memory, S: Scheme>(
-    heap: &Heap<M, S>,
-    packed: &[u32; 32],
-) -> Option<Difference> {
-    for (handle, word) in (0..32u32).zip(packed.iter()) {
-        let stands = heap.handle_word(handle);
-        if stands != *word {
-            return Some(Difference::Handle {
-                handle,
-                heap: stands,
-                model: *word,
-            });
-        }
-    }
-    None
-}
-
-/// Compares every word of a heap that is packed.
-fn compare_words<M: Memory, S: Scheme>(
-    alloc: Global,
-    heap: &Heap<M, S>,
-    still: &Still,
-) -> Result<Option<Difference>, AllocError> {
-    let (memory, handles) = still.packed(alloc)?;
-    let difference = compare_memory(heap, &memory);
-    if difference.is_some() {
-        return Ok(difference);
-    }
-    Ok(compare_handles(heap, &handles))
+/// Compares what stands in the heap with the packed words.
+fn agree<F: Fn(u32) -> u32>(packed: &[u32], stands: F) -> Result<(), Other>
+    requires { F.IsAlwaysCallable stands }
+{
+    (0..)
+        .zip(packed)
+        .map(|(place, word)| Other {
+            place,
+            heap: stands(place),
+            model: *word,
+        })
+        .find(|word| word.heap != word.model)
+        .map_or(Ok(()), Err)
 }
 
 /// The most words of a heap that are compared after every call, and not only where it is packed.
@@ -120,7 +81,6 @@ const WATCHED: u32 = 200;
 /// What stands beside a heap: the model, and a picture of the heap's words before the call.
 #[derive(Drop)]
 pub struct Beside {
-    alloc: Global,
     still: Still,
     picture: Picture,
 }
@@ -130,24 +90,28 @@ impl Beside {
     pub fn new(alloc: Global, length: u32, rules: Rules) -> Result<Beside, AllocError> {
         let picture = Picture::new(alloc, length.min(WATCHED))?;
         Ok(Beside {
-            alloc,
             still: Still::new(alloc, length, rules),
             picture,
         })
     }
 
-    /// Whether the call has changed only what it may, as far as the words are watched.
+    /// Whether only what may change has changed, as far as the words are watched.
     fn keeps<M: Memory, S: Scheme>(
         &self,
         heap: &Heap<M, S>,
-        call: Call,
-        answer: Outcome,
+        change: Change,
     ) -> Result<bool, AllocError> {
         if self.still.words() > WATCHED {
             return Ok(true);
         }
-        self.picture
-            .keeps(self.alloc, heap, &self.still, call, answer)
+        self.picture.keeps(heap, &self.still, change)
+    }
+
+    /// Compares every word of a heap that is packed.
+    fn compare_words<M: Memory, S: Scheme>(&self, heap: &Heap<M, S>) -> Result<(), Difference> {
+        let packed = self.still.packed()?;
+        agree(&packed.words, |place| heap.word(place)).map_err(Difference::Word)?;
+        agree(&packed.handles, |handle| heap.handle_word(handle)).map_err(Difference::Handle)
     }
 
     /// Gives the model a call that the heap has answered, and compares: the answers, which words have changed, and all words
@@ -155,25 +119,25 @@ impl Beside {
     pub fn compare<M: Memory, S: Scheme>(
         &mut self,
         heap: &Heap<M, S>,
-        call: Call,
-        answer: Outcome,
-    ) -> Result<Option<Difference>, AllocError> {
-        let kept = self.keeps(heap, call, answer)?;
+        answered: Answered,
+    ) -> Result<(), Difference> {
+        let Answered { call, answer } = answered;
+        let change = answered.change();
+        let kept = self.keeps(heap, change)?;
         self.picture.retake(heap);
         let model = self.still.give(call)?;
         if answer != model {
-            return Ok(Some(Difference::Answer {
-                call,
-                heap: answer,
+            return Err(Difference::Answer {
+                heap: answered,
                 model,
-            }));
+            });
         }
         if !kept {
-            return Ok(Some(Difference::Changed(call)));
+            return Err(Difference::Changed(call));
         }
-        if !packs(call, answer) {
-            return Ok(None);
+        match change {
+            Change::All => self.compare_words(heap),
+            _ => Ok(()),
         }
-        compare_words(self.alloc, heap, &self.still)
     }
 }

@@ -1,12 +1,13 @@
 // Loads over the two memories. A memory is dirty when a heap is made in it, and is looked at again afterwards.
+use crate::answered::Answered;
 use crate::beside::Beside;
 use crate::load::{Load, Manner};
+use crate::schemes::Modelled;
 use crate::tally::Tally;
-use heap::Heap;
+use heap::{Heap, WORDS};
 use memory::Memory;
-use model::Rules;
-use scheme::Scheme;
 use std::alloc::{AllocError, Global};
+use std::fmt;
 
 /// The loads that each memory and scheme has to bear: a manner and a seed.
 const LOADS: [(Manner, u64); 6] = [
@@ -21,88 +22,115 @@ const LOADS: [(Manner, u64); 6] = [
 /// The calls of a load.
 const CALLS: u32 = 12_000;
 
-/// The words that a heap uses at most.
-const MOST: usize = 16_384;
-
 /// What a memory holds before the first heap is made in it.
 const WORD: u32 = 0x5eed_beef;
 
 const BYTE: u8 = 0xa5;
 
-/// Gives a load to a new heap, and to the model beside it.
-fn run<M: Memory + Drop, S: Scheme + Drop>(
+/// What a memory is made of, and how much of it there is.
+#[derive(Clone, Copy)]
+pub enum Extent {
+    Words(u32),
+    /// Four bytes for each word, and some more, which make no word.
+    Bytes { words: u32, left: u32 },
+}
+
+impl Extent {
+    /// How many words the memory has.
+    fn words(self) -> u32 {
+        match self {
+            Extent::Words(words) | Extent::Bytes { words, .. } => words,
+        }
+    }
+
+    /// How many of them a heap uses.
+    pub fn used(self) -> usize {
+        (self.words() as usize).min(WORDS)
+    }
+}
+
+impl fmt::Display for Extent {
+    fn fmt<W: fmt::Write>(&self, f: &mut fmt::Formatter<W>) -> fmt::Result {
+        match self {
+            Extent::Words(words) => write!(f, "{words} words"),
+            Extent::Bytes { words, left } => write!(f, "bytes of {words} words and {left} more"),
+        }
+    }
+}
+
+/// A memory that was dirty, and what stands in it behind a heap's words.
+// An impl for each slice: one impl over a trait of cells would need two constants of each kind of cell, in place of one line of each.
+trait Dirty: Memory + Drop {
+    /// Whether everything behind so many words is as it was.
+    fn stays_behind(&self, used: usize) -> bool;
+}
+
+impl Dirty for &mut [u32] {
+    fn stays_behind(&self, used: usize) -> bool {
+        self.iter().skip(used).all(|word| *word == WORD)
+    }
+}
+
+impl Dirty for &mut [u8] {
+    fn stays_behind(&self, used: usize) -> bool {
+        self.iter()
+            .skip(used.saturating_mul(4))
+            .all(|byte| *byte == BYTE)
+    }
+}
+
+/// Gives a load to a new heap in the memory, and to the model beside it, and gives the memory back.
+fn run<M: Memory + Drop, S: Modelled>(
     memory: M,
     scheme: S,
     mut beside: Beside,
     mut load: Load,
     tally: &mut Tally,
-) {
+) -> M {
     let mut heap = Heap::new(memory, scheme);
     for _ in 0..CALLS {
         let call = load.next_call();
         let (next, answer) = heap.run(call);
         heap = next;
-        tally.count(call, answer);
-        tally.find(beside.compare(&heap, call, answer));
+        let answered = Answered { call, answer };
+        tally.count(answered);
+        tally.find(beside.compare(&heap, answered));
     }
-    let (_, _) = heap.into_parts();
+    let (memory, _) = heap.into_parts();
+    memory
 }
 
-fn word_stays(words: &[u32]) -> bool {
-    for word in words.iter().skip(MOST) {
-        if *word != WORD {
-            return false;
-        }
-    }
-    true
-}
-
-/// Whether the bytes from a place on are as they were.
-fn byte_stays(bytes: &[u8], from: usize) -> bool {
-    for byte in bytes.iter().skip(from) {
-        if *byte != BYTE {
-            return false;
-        }
-    }
-    true
-}
-
-/// All loads over so many words.
-pub fn over_words<S: Scheme + Copy + Drop>(
+/// All loads over the memory.
+fn run_all<M: Dirty, S: Modelled>(
     alloc: Global,
+    mut memory: M,
     scheme: S,
-    rules: Rules,
-    length: u32,
+    extent: Extent,
 ) -> Result<Tally, AllocError> {
-    let mut words = vec![in alloc; WORD; length as usize]?;
-    let mut tally = Tally::new();
+    let mut tally = Tally::default();
     for (manner, seed) in LOADS {
-        let beside = Beside::new(alloc, length, rules)?;
+        let beside = Beside::new(alloc, extent.words(), S::RULES)?;
         let load = Load::new(manner, seed);
         tally.begin();
-        run(words.as_mut_slice(), scheme, beside, load, &mut tally);
-        tally.find_behind(word_stays(words.as_slice()));
+        memory = run(memory, scheme, beside, load, &mut tally);
+        tally.find_behind(memory.stays_behind(extent.used()));
     }
     Ok(tally)
 }
 
-/// All loads over the bytes of so many words and of some more bytes, which make no word.
-pub fn over_bytes<S: Scheme + Copy + Drop>(
-    alloc: Global,
-    scheme: S,
-    rules: Rules,
-    length: u32,
-    left: u32,
-) -> Result<Tally, AllocError> {
-    let whole = (length as usize).saturating_mul(4);
-    let mut bytes = vec![in alloc; BYTE; whole.saturating_add(left as usize)]?;
-    let mut tally = Tally::new();
-    for (manner, seed) in LOADS {
-        let beside = Beside::new(alloc, length, rules)?;
-        let load = Load::new(manner, seed);
-        tally.begin();
-        run(bytes.as_mut_slice(), scheme, beside, load, &mut tally);
-        tally.find_behind(byte_stays(bytes.as_slice(), whole.min(MOST * 4)));
+/// All loads over a memory of this extent.
+pub fn over<S: Modelled>(alloc: Global, extent: Extent, scheme: S) -> Result<Tally, AllocError> {
+    match extent {
+        Extent::Words(words) => {
+            let mut memory = vec![in alloc; WORD; words as usize]?;
+            run_all(alloc, memory.as_mut_slice(), scheme, extent)
+        }
+        Extent::Bytes { words, left } => {
+            let bytes = (words as usize)
+                .saturating_mul(4)
+                .saturating_add(left as usize);
+            let mut memory = vec![in alloc; BYTE; bytes]?;
+            run_all(alloc, memory.as_mut_slice(), scheme, extent)
+        }
     }
-    Ok(tally)
 }

@@ -1,10 +1,12 @@
 // The examples of docs/HEAP.md: the answers, and some of the words, that the rules give for them.
+use crate::answered::Answered;
 use crate::beside::Beside;
+use crate::schemes::Modelled;
 use graph::{Call, Outcome, Refusal};
 use heap::Heap;
 use memory::Memory;
 use model::Rules;
-use scheme::{Mask, Prefix, Scheme};
+use scheme::{Mask, Prefix};
 use std::alloc::{AllocError, Global};
 
 /// A heap of so many words, calls with their answers, and words that stand there after the last of them.
@@ -17,6 +19,8 @@ pub struct Example {
     words: &'static [(u32, u32)],
     handles: &'static [(u32, u32)],
 }
+
+// A constant can call no function, so that each call is written out.
 
 // The calls of the worked example.
 const MAP: Call = Call::Map {
@@ -544,93 +548,65 @@ pub const EXAMPLES: [Example; 16] = [
     },
 ];
 
-/// Whether the words named stand in the heap.
-fn stand<M: Memory, S: Scheme>(heap: &Heap<M, S>, words: &[(u32, u32)]) -> bool {
-    let mut all = true;
-    for (place, word) in words {
-        all = all && heap.word(*place) == *word;
-    }
-    all
-}
-
-/// Whether the words named stand in the handles.
-fn hold<M: Memory, S: Scheme>(heap: &Heap<M, S>, words: &[(u32, u32)]) -> bool {
-    let mut all = true;
-    for (handle, word) in words {
-        all = all && heap.handle_word(*handle) == *word;
-    }
-    all
-}
-
-/// Whether a heap over the memory, and the model beside it, do as the example says.
-fn holds_over<M: Memory + Drop, S: Scheme + Drop>(
-    mut beside: Beside,
-    example: Example,
-    memory: M,
-    scheme: S,
-) -> bool {
-    let mut heap = Heap::new(memory, scheme);
-    let mut all = true;
-    for (call, outcome) in example.steps {
-        let (next, answer) = heap.run(*call);
-        heap = next;
-        let agree = matches!(beside.compare(&heap, *call, answer), Ok(None));
-        all = all && agree && answer == *outcome;
-    }
-    all = all && stand(&heap, example.words) && hold(&heap, example.handles);
-    let (_, _) = heap.into_parts();
-    all
+/// Whether the words named are read.
+fn are_read<F: Fn(u32) -> u32>(words: &[(u32, u32)], read: F) -> bool
+    requires { F.IsAlwaysCallable read }
+{
+    words.iter().all(|(place, word)| read(*place) == *word)
 }
 
 /// The word at a place among bytes: four of them, the most significant first.
 fn word_in(bytes: &[u8], place: u32) -> u32 {
-    let mut word = 0u32;
-    let from = (place as usize).saturating_mul(4);
-    for byte in bytes.iter().skip(from).take(4) {
-        word = word.wrapping_mul(256).wrapping_add(u32::from(*byte));
-    }
-    word
-}
-
-/// Whether the words named stand among the bytes.
-fn lie_in(bytes: &[u8], words: &[(u32, u32)]) -> bool {
-    let mut all = true;
-    for (place, word) in words {
-        all = all && word_in(bytes, *place) == *word;
-    }
-    all
+    let (words, _) = bytes.as_chunks::<4>();
+    words
+        .get(place as usize)
+        .map_or(0, |word| u32::from_be_bytes(*word))
 }
 
 impl Example {
-    /// Whether the example holds over words.
-    fn holds_over_words(self, alloc: Global) -> Result<bool, AllocError> {
-        let mut words = vec![in alloc; 9u32; self.length as usize]?;
-        let beside = Beside::new(alloc, self.length, self.rules)?;
-        let memory = words.as_mut_slice();
-        let holds = match self.rules {
-            Rules::Prefix => holds_over(beside, self, memory, Prefix),
-            Rules::Mask => holds_over(beside, self, memory, Mask),
-        };
-        Ok(holds)
+    /// Whether a heap over the memory, and the model beside it, do as the example says.
+    fn holds_over<M: Memory + Drop, S: Modelled>(
+        self,
+        alloc: Global,
+        memory: M,
+        scheme: S,
+    ) -> Result<bool, AllocError> {
+        let mut beside = Beside::new(alloc, self.length, S::RULES)?;
+        let mut heap = Heap::new(memory, scheme);
+        let mut all = true;
+        for (call, outcome) in self.steps {
+            let (next, answer) = heap.run(*call);
+            heap = next;
+            let answered = Answered {
+                call: *call,
+                answer,
+            };
+            let agrees = beside.compare(&heap, answered).is_ok();
+            all = all && agrees && answer == *outcome;
+        }
+        all = all
+            && are_read(self.words, |place| heap.word(place))
+            && are_read(self.handles, |handle| heap.handle_word(handle));
+        let (_, _) = heap.into_parts();
+        Ok(all)
     }
 
-    /// Whether the example holds over bytes, and its words lie in them as they should.
-    fn holds_over_bytes(self, alloc: Global) -> Result<bool, AllocError> {
-        let length = (self.length as usize).saturating_mul(4).saturating_add(3);
-        let mut bytes = vec![in alloc; 9u8; length]?;
-        let beside = Beside::new(alloc, self.length, self.rules)?;
-        let memory = bytes.as_mut_slice();
-        let holds = match self.rules {
-            Rules::Prefix => holds_over(beside, self, memory, Prefix),
-            Rules::Mask => holds_over(beside, self, memory, Mask),
-        };
-        Ok(holds && lie_in(bytes.as_slice(), self.words))
+    /// Whether the example holds over words and over bytes, and its words lie in the bytes as they should.
+    fn holds_under<S: Modelled>(self, alloc: Global, scheme: S) -> Result<bool, AllocError> {
+        let length = self.length as usize;
+        let mut words = vec![in alloc; 9u32; length]?;
+        let mut bytes = vec![in alloc; 9u8; length.saturating_mul(4).saturating_add(3)]?;
+        let over_words = self.holds_over(alloc, words.as_mut_slice(), scheme)?;
+        let over_bytes = self.holds_over(alloc, bytes.as_mut_slice(), scheme)?;
+        let lie = are_read(self.words, |place| word_in(&bytes, place));
+        Ok(over_words && over_bytes && lie)
     }
 
     /// Whether heap and model do as the example says, over both memories.
     pub fn holds(self, alloc: Global) -> Result<bool, AllocError> {
-        let over_words = self.holds_over_words(alloc)?;
-        let over_bytes = self.holds_over_bytes(alloc)?;
-        Ok(over_words && over_bytes)
+        match self.rules {
+            Rules::Prefix => self.holds_under(alloc, Prefix),
+            Rules::Mask => self.holds_under(alloc, Mask),
+        }
     }
 }

@@ -1,6 +1,9 @@
 // Random loads: which call comes next.
+ghost use Rattle.std.specs.Prelude.{◌+◌, ◌<◌};
+
 use graph::Call;
-use wild::Wild;
+use std::ops::Range;
+use wild::{LAYOUTS, RECORDS, Wild};
 
 /// In which manner calls are chosen.
 #[derive(Clone, Copy)]
@@ -53,11 +56,19 @@ impl Load {
     /// The next call.
     pub fn next_call(&mut self) -> Call {
         self.turn = self.turn.wrapping_add(1);
+        // a match on three manners that stand in a table of loads: values of a trait would need boxes to stand there
         match self.manner {
             Manner::Wild => self.wild.next_call(),
             Manner::Scarce => self.scarce(),
             Manner::Thicket => self.thicket(),
         }
+    }
+
+    /// One of the handles.
+    fn one_of(&mut self, handles: Range<u32>) -> u32
+        requires { handles.start < handles.end }
+    {
+        handles.start + self.wild.below(handles.end - handles.start)
     }
 
     /// A wild call; of thirty-two collections, one is kept.
@@ -66,8 +77,8 @@ impl Load {
         match call {
             Call::Collect | Call::Stepped | Call::GivenUp if self.wild.below(32) > 0 => {
                 Call::Record {
-                    target: 7 + self.wild.below(12),
-                    layout: 3 + self.wild.below(4),
+                    target: self.one_of(RECORDS),
+                    layout: self.one_of(LAYOUTS),
                 }
             }
             _ => call,

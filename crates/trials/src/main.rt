@@ -1,17 +1,19 @@
 // The examples of the rules, and long random loads, to the heap and to the model beside it, over both memories, both schemes and heaps of many sizes.
 #![tactic(auto)]
 
+mod answered;
 mod beside;
 mod course;
 mod examples;
 mod load;
 mod picture;
+mod schemes;
 mod tally;
 
-use course::{over_bytes, over_words};
+use course::{Extent, over};
 use examples::EXAMPLES;
-use model::Rules;
-use scheme::{Mask, Prefix, Scheme};
+use scheme::{Mask, Prefix};
+use schemes::Modelled;
 use std::io;
 
 /// The memories: how many words they have, and how many bytes more where they are bytes.
@@ -41,38 +43,21 @@ fn try_examples(rt: &HostRuntime) -> io::Result<()> {
     Ok(())
 }
 
-fn try_words<S: Scheme + Copy + Drop>(
-    rt: &HostRuntime,
-    name: &str,
-    scheme: S,
-    rules: Rules,
-) -> io::Result<()> {
-    for (length, _) in LENGTHS {
-        let used = length.min(16_384);
-        let tally = over_words(rt.alloc(), scheme, rules, length)?;
-        println!(rt; "{name}, {length} words, W {used}: {tally}")?;
-    }
-    Ok(())
-}
-
-fn try_bytes<S: Scheme + Copy + Drop>(
-    rt: &HostRuntime,
-    name: &str,
-    scheme: S,
-    rules: Rules,
-) -> io::Result<()> {
-    for (length, left) in LENGTHS {
-        let used = length.min(16_384);
-        let tally = over_bytes(rt.alloc(), scheme, rules, length, left)?;
-        println!(rt; "{name}, bytes of {length} words and {left} more, W {used}: {tally}")?;
+/// The loads under the scheme, over memories of these extents.
+fn try_loads<S: Modelled>(rt: &HostRuntime, scheme: S, extents: &[Extent]) -> io::Result<()> {
+    for extent in extents {
+        let tally = over(rt.alloc(), *extent, scheme)?;
+        println!(rt; "{}, {extent}, W {}: {tally}", S::NAME, extent.used())?;
     }
     Ok(())
 }
 
 fn main(rt: HostRuntime) -> io::Result<()> {
+    let words = LENGTHS.map(|(words, _)| Extent::Words(words));
+    let bytes = LENGTHS.map(|(words, left)| Extent::Bytes { words, left });
     try_examples(&rt)?;
-    try_words(&rt, "PREFIX", Prefix, Rules::Prefix)?;
-    try_words(&rt, "MASK", Mask, Rules::Mask)?;
-    try_bytes(&rt, "PREFIX", Prefix, Rules::Prefix)?;
-    try_bytes(&rt, "MASK", Mask, Rules::Mask)
+    try_loads(&rt, Prefix, &words)?;
+    try_loads(&rt, Mask, &words)?;
+    try_loads(&rt, Prefix, &bytes)?;
+    try_loads(&rt, Mask, &bytes)
 }

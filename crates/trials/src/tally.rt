@@ -1,11 +1,11 @@
 // What came of the loads of one memory and scheme.
+use crate::answered::Answered;
 use crate::beside::Difference;
-use graph::{Call, Outcome};
-use std::alloc::AllocError;
+use graph::Call;
 use std::fmt;
 
 /// How many calls there were and how they ended, the most live words of a collection, and the first difference, if there is one.
-#[derive(Clone, Copy)]
+#[derive(Clone, Copy, Default)]
 pub struct Tally {
     loads: u32,
     calls: u32,
@@ -32,30 +32,18 @@ pub enum What {
 }
 
 impl Tally {
-    pub fn new() -> Tally {
-        Tally {
-            loads: 0,
-            calls: 0,
-            granted: 0,
-            refused: 0,
-            collections: 0,
-            most: 0,
-            finding: None,
-        }
-    }
-
     /// Another load begins.
     pub fn begin(&mut self) {
         self.loads = self.loads.saturating_add(1);
     }
 
     /// Counts a call with its answer. A collection that is given up is none.
-    pub fn count(&mut self, call: Call, answer: Outcome) {
+    pub fn count(&mut self, answered: Answered) {
         self.calls = self.calls.saturating_add(1);
-        match answer {
+        match answered.answer {
             Ok(number) => {
                 self.granted = self.granted.saturating_add(1);
-                self.count_collection(call, number);
+                self.count_collection(answered.call, number);
             }
             Err(_) => self.refused = self.refused.saturating_add(1),
         }
@@ -69,11 +57,9 @@ impl Tally {
     }
 
     /// Notes what a comparison has found.
-    pub fn find(&mut self, found: Result<Option<Difference>, AllocError>) {
-        match found {
-            Ok(None) => {}
-            Ok(Some(difference)) => self.note(What::Differs(difference)),
-            Err(_) => self.note(What::Differs(Difference::NoRoom)),
+    pub fn find(&mut self, found: Result<(), Difference>) {
+        if let Err(difference) = found {
+            self.note(What::Differs(difference));
         }
     }
 
@@ -97,16 +83,20 @@ impl Tally {
 
 impl fmt::Display for Tally {
     fn fmt<W: fmt::Write>(&self, f: &mut fmt::Formatter<W>) -> fmt::Result {
-        let calls = self.calls;
-        let granted = self.granted;
-        let refused = self.refused;
-        let collections = self.collections;
-        let most = self.most;
+        let Tally {
+            calls,
+            granted,
+            refused,
+            collections,
+            most,
+            finding,
+            ..
+        } = self;
         write!(
             f,
             "{calls} calls, {granted} granted, {refused} refused, {collections} collections, live words up to {most}, "
         )?;
-        match self.finding {
+        match finding {
             None => write!(f, "agree"),
             Some(finding) => write!(f, "{finding}"),
         }
@@ -115,10 +105,9 @@ impl fmt::Display for Tally {
 
 impl fmt::Display for Finding {
     fn fmt<W: fmt::Write>(&self, f: &mut fmt::Formatter<W>) -> fmt::Result {
-        let load = self.load;
-        let call = self.call;
+        let Finding { load, call, what } = self;
         write!(f, "differ in load {load} after {call} calls: ")?;
-        match self.what {
+        match what {
             What::Differs(difference) => write!(f, "{difference}"),
             What::Spilled => write!(f, "words behind the heap's have changed"),
         }

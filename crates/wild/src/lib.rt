@@ -1,13 +1,28 @@
 // Wild calls for trials: the same seed gives the same calls on every machine.
 //
-// Most calls are near to being granted: maps are mostly kept in handles 0 to 2, layouts in 3 to 6, records in 7 to 18, and
-// anything in the others. The rest of the arguments stand at the ends of what is allowed, one beyond them, or anywhere
-// among the words.
+// Most calls are near to being granted: maps, layouts, records and loaded values are mostly kept in handles of their own. The rest
+// of the arguments stand at the ends of what is allowed, one beyond them, or anywhere among the words.
 #![tactic(auto)]
 
-ghost use Rattle.std.specs.Prelude.{◌+◌, ◌<◌, ◌≤◌};
+ghost use Rattle.std.specs.Prelude.{◌<◌, ◌≤◌};
 
 use graph::Call;
+use std::ops::Range;
+
+// The handles in which things are mostly kept.
+const MAPS: Range<u32> = 0..3;
+
+pub const LAYOUTS: Range<u32> = 3..7;
+
+pub const RECORDS: Range<u32> = 7..19;
+
+/// Handles for loaded values.
+const LOOSE: Range<u32> = 19..31;
+
+/// The last handle, which mostly stays empty.
+const LAST: Range<u32> = 31..32;
+
+const ALL: Range<u32> = 0..32;
 
 /// A generator of calls: xorshift on 64 bits.
 #[derive(Clone, Copy)]
@@ -48,52 +63,31 @@ impl Wild {
     }
 }
 
-// Arguments.
+// Arguments: their tables differ in how often each arm comes, so that one function for all would take a number for each that it saves.
 impl Wild {
-    /// Mostly one of so many handles from the first on; else any, among them 32 and 33, which are none.
-    fn handle(&mut self, first: u32, count: u32) -> u32
-        requires { (0 < count) × (first + count ≤ 32) }
+    /// Mostly one of these handles; else any, among them 32 and 33, which are none.
+    fn handle(&mut self, mostly: Range<u32>) -> u32
+        requires { (mostly.start < mostly.end) × (mostly.end ≤ 32) }
     {
         match self.below(32) {
             0 => self.word(),
             1 | 2 => self.below(34),
-            _ => first + self.below(count),
+            _ => mostly.start + self.below(mostly.end - mostly.start),
         }
     }
 
-    fn map(&mut self) -> u32 {
-        self.handle(0, 3)
-    }
-
-    fn layout(&mut self) -> u32 {
-        self.handle(3, 4)
-    }
-
-    fn record(&mut self) -> u32 {
-        self.handle(7, 12)
-    }
-
-    fn any(&mut self) -> u32 {
-        self.handle(0, 32)
-    }
-
-    /// The handle of a map or, as often, handle 31, which mostly stays empty.
+    /// The handle of a map or, as often, the last one.
     fn parent(&mut self) -> u32 {
         match self.below(2) {
-            0 => self.map(),
-            _ => self.handle(31, 1),
+            0 => self.handle(MAPS),
+            _ => self.handle(LAST),
         }
-    }
-
-    /// A handle for a loaded value.
-    fn loose(&mut self) -> u32 {
-        self.handle(19, 12)
     }
 
     /// A number: small, about the range's ends, or any.
     fn number(&mut self) -> i32 {
         match self.below(8) {
-            0 => i32::from_le_bytes(self.word().to_le_bytes()),
+            0 => self.word().cast_signed(),
             1 => 536_870_904 + self.below(16) as i32,
             2 => -536_870_920 + self.below(16) as i32,
             _ => self.below(16) as i32 - 8,
@@ -137,7 +131,7 @@ impl Wild {
     }
 }
 
-// Calls.
+// Calls: each a match on a drawn number, since each arm draws arguments of its own, and a table would need a closure for each.
 impl Wild {
     /// The next call.
     pub fn next_call(&mut self) -> Call {
@@ -154,19 +148,19 @@ impl Wild {
     fn making(&mut self) -> Call {
         match self.below(8) {
             0 => Call::Map {
-                target: self.map(),
+                target: self.handle(MAPS),
                 rule: self.rule(),
-                name: self.any(),
+                name: self.handle(ALL),
                 parent: self.parent(),
             },
             1 => Call::Layout {
-                target: self.layout(),
+                target: self.handle(LAYOUTS),
                 fields: self.fields(),
-                map: self.map(),
+                map: self.handle(MAPS),
             },
             _ => Call::Record {
-                target: self.record(),
-                layout: self.layout(),
+                target: self.handle(RECORDS),
+                layout: self.handle(LAYOUTS),
             },
         }
     }
@@ -175,20 +169,22 @@ impl Wild {
     fn moving(&mut self) -> Call {
         match self.below(8) {
             0 => Call::Num {
-                handle: self.loose(),
+                handle: self.handle(LOOSE),
                 number: self.number(),
             },
-            1 => Call::Clear { handle: self.any() },
+            1 => Call::Clear {
+                handle: self.handle(ALL),
+            },
             2 => Call::Clear {
-                handle: self.record(),
+                handle: self.handle(RECORDS),
             },
             3 | 4 => Call::Copy {
-                target: self.record(),
-                source: self.record(),
+                target: self.handle(RECORDS),
+                source: self.handle(RECORDS),
             },
             5 => Call::Copy {
-                target: self.any(),
-                source: self.any(),
+                target: self.handle(ALL),
+                source: self.handle(ALL),
             },
             _ => self.taking(),
         }
@@ -198,33 +194,33 @@ impl Wild {
     fn taking(&mut self) -> Call {
         match self.below(8) {
             0 => Call::Part {
-                target: self.any(),
-                object: self.any(),
+                target: self.handle(ALL),
+                object: self.handle(ALL),
                 part: self.below(5),
             },
             1 => Call::Part {
-                target: self.any(),
-                object: self.any(),
+                target: self.handle(ALL),
+                object: self.handle(ALL),
                 part: self.word(),
             },
             2 => Call::Part {
-                target: self.layout(),
-                object: self.record(),
+                target: self.handle(LAYOUTS),
+                object: self.handle(RECORDS),
                 part: 0,
             },
             3 => Call::Part {
-                target: self.map(),
-                object: self.layout(),
+                target: self.handle(MAPS),
+                object: self.handle(LAYOUTS),
                 part: 1,
             },
             4 | 5 => Call::Part {
-                target: self.loose(),
-                object: self.map(),
+                target: self.handle(LOOSE),
+                object: self.handle(MAPS),
                 part: 2,
             },
             _ => Call::Part {
-                target: self.loose(),
-                object: self.map(),
+                target: self.handle(LOOSE),
+                object: self.handle(MAPS),
                 part: 3,
             },
         }
@@ -234,31 +230,31 @@ impl Wild {
     fn reaching(&mut self) -> Call {
         match self.below(8) {
             0 => Call::Load {
-                target: self.record(),
-                record: self.record(),
+                target: self.handle(RECORDS),
+                record: self.handle(RECORDS),
                 field: self.field(),
             },
             1 => Call::Load {
-                target: self.loose(),
-                record: self.record(),
+                target: self.handle(LOOSE),
+                record: self.handle(RECORDS),
                 field: self.field(),
             },
             2..=4 => Call::Save {
-                record: self.record(),
+                record: self.handle(RECORDS),
                 field: self.field(),
-                source: self.record(),
+                source: self.handle(RECORDS),
             },
             5 => Call::Save {
-                record: self.record(),
+                record: self.handle(RECORDS),
                 field: self.field(),
-                source: self.any(),
+                source: self.handle(ALL),
             },
             6 => Call::RawLoad {
-                record: self.record(),
+                record: self.handle(RECORDS),
                 field: self.field(),
             },
             _ => Call::RawSave {
-                record: self.record(),
+                record: self.handle(RECORDS),
                 field: self.field(),
                 word: self.raw(),
             },
@@ -268,21 +264,25 @@ impl Wild {
     /// A call that only asks.
     fn asking(&mut self) -> Call {
         match self.below(6) {
-            0 => Call::Kind { handle: self.any() },
+            0 => Call::Kind {
+                handle: self.handle(ALL),
+            },
             1 => Call::Value {
-                handle: self.loose(),
+                handle: self.handle(LOOSE),
             },
             2 => Call::Same {
-                first: self.any(),
-                second: self.any(),
+                first: self.handle(ALL),
+                second: self.handle(ALL),
             },
             3 => Call::Same {
-                first: self.record(),
-                second: self.record(),
+                first: self.handle(RECORDS),
+                second: self.handle(RECORDS),
             },
-            4 => Call::Figure { handle: self.any() },
+            4 => Call::Figure {
+                handle: self.handle(ALL),
+            },
             _ => Call::Raws {
-                handle: self.layout(),
+                handle: self.handle(LAYOUTS),
             },
         }
     }
