@@ -11,12 +11,12 @@ use Rattle.runner.proofs.run_lines.Given as goal
 abbrev pub invariant-loop-number : goal.invariant-loop-number
 invariant-loop-number g l =
     let m : Meaning = g.S.Scheme.meaning l.initial.heap.scheme in
-    let W : ℕ = l.initial.heap.limit in
+    let W : ℕ = l.initial.heap.bounds.limit in
     let number = l.number-iterator.a.start in
     let left = lines l.number-iterator.b.rest.now in
     ((st : State) → StandsAt m (view g.M.Memory.words l.initial.heap) st →
     (now : State) × StandsAt m (view g.M.Memory.words l.heap) now
     × (vec_items l.reports ++ runs (advance m W) now l.columns number left ≡ vec_items l.initial.reports ++ runs (advance m W) st l.columns 2 (lines l.text)))
-    × (l.heap.limit ≡ l.initial.heap.limit)
+    × (l.heap.bounds.limit ≡ l.initial.heap.bounds.limit)
     × (l.heap.scheme ≡ l.initial.heap.scheme)
     × (number + length left ≤ 65538)

@@ -31,7 +31,7 @@ pub loop-call-preserved : goal.loop-call-preserved
 loop-call-preserved g c =
     let inv = c.loop-call.invariant in
     let m : Meaning = g.S.Scheme.meaning c.new-heap.result.scheme in
-    let W : ℕ = c.new-heap.result.limit in
+    let W : ℕ = c.new-heap.result.bounds.limit in
     let calls = c.args.calls.now in
     let i = c.loop-call.call-index in
     let call : Call = get_or calls i (Num 0 (pos 0)) in
@@ -65,16 +65,16 @@ returns g c =
     let all : take i calls ≡ calls = take_all i calls (omega arith) in
     let h = c.loop-call.heap in
     let v = view {S = g.row.S.Denot} words h in
-    let run_is : advances (m c.new-heap.result.scheme) c.new-heap.result.limit (take i calls) start ≡ advances M W calls start =
-    ap (λ cs. advances (m c.new-heap.result.scheme) c.new-heap.result.limit cs start) all ∙ ap (λ s. advances (m s) c.new-heap.result.limit calls start) new.scheme ∙ ap (λ k. advances M k calls start) new.limit in
+    let run_is : advances (m c.new-heap.result.scheme) c.new-heap.result.bounds.limit (take i calls) start ≡ advances M W calls start =
+    ap (λ cs. advances (m c.new-heap.result.scheme) c.new-heap.result.bounds.limit cs start) all ∙ ap (λ s. advances (m s) c.new-heap.result.bounds.limit calls start) new.scheme ∙ ap (λ k. advances M k calls start) new.limit in
     let told : vec_items c.loop-call.answers ≡ (run M W calls bare).0 = inv.told ∙ ap (λ x. x.0) run_is ∙ (runs-agree M W calls start).0 in
     let stands : StandsAt M W v (advances M W calls start).1 =
-    subst (λ x. StandsAt M W v x.1) run_is (subst (λ s. Stands (m s) v (advances (m c.new-heap.result.scheme) c.new-heap.result.limit (take i calls) start).1.graph (advances (m c.new-heap.result.scheme) c.new-heap.result.limit (take i calls) start).1.standing) new.scheme inv.stands) in
+    subst (λ x. StandsAt M W v x.1) run_is (subst (λ s. Stands (m s) v (advances (m c.new-heap.result.scheme) c.new-heap.result.bounds.limit (take i calls) start).1.graph (advances (m c.new-heap.result.scheme) c.new-heap.result.bounds.limit (take i calls) start).1.standing) new.scheme inv.stands) in
     let later : drop W (words h.space.memory) ≡ drop W old =
     subst (λ k. drop k (words h.space.memory) ≡ drop k old) new.limit
-    (inv.later ∙ ap (drop c.new-heap.result.limit) new.zeros ∙ drop_at (replicate c.new-heap.result.limit 0) (drop c.new-heap.result.limit old) c.new-heap.result.limit (length-replicate c.new-heap.result.limit 0)) in
+    (inv.later ∙ ap (drop c.new-heap.result.bounds.limit) new.zeros ∙ drop_at (replicate c.new-heap.result.bounds.limit 0) (drop c.new-heap.result.bounds.limit old) c.new-heap.result.bounds.limit (length-replicate c.new-heap.result.bounds.limit 0)) in
     let graph_is = (runs-agree M W calls start).1 in
-    let limit : h.limit ≡ W = inv.limit ∙ new.limit in
+    let limit : h.bounds.limit ≡ W = inv.limit ∙ new.limit in
     let standing : Stands M v (run M W calls bare).1 (advances M W calls start).1.standing = subst (λ (gr : Graph). Stands M v gr (advances M W calls start).1.standing) graph_is stands in
     record {
       answered = told;
