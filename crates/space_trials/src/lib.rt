@@ -6,7 +6,7 @@ mod tests {
     use marking::{begin, give_up};
     use memory::Memory;
     use scheme::Prefix;
-    use space::{ADDRESSES, Space, WORDS};
+    use space::{ADDRESSES, Bounds, Space, WORDS};
 
     // Writes the words from the place on.
     fn write<M: Memory>(space: &mut Space<M>, from: u32, words: &[u32]) {
@@ -29,20 +29,23 @@ mod tests {
     // Whether begin tells the live words, giving up brings the words back, and the three steps leave the ends.
     fn collects<M: Memory>(
         space: &mut Space<M>,
-        limit: u32,
-        low: u32,
-        high: u32,
+        bounds: Bounds,
         live: u32,
         ends: (u32, u32),
     ) -> bool {
         let first = space.look(0);
-        let told = begin(space, &Prefix, limit, low, high);
-        give_up(space, limit, low, high);
+        let told = begin(space, &Prefix, bounds);
+        give_up(space, bounds);
         let back = space.look(0) == first;
-        let again = begin(space, &Prefix, limit, low, high);
-        space.draw(&Prefix, limit, low, high);
-        let (new_low, new_high) = space.close(limit, low, high);
-        back && told == live && again == live && new_low == ends.0 && new_high == ends.1
+        let again = begin(space, &Prefix, bounds);
+        space.draw(&Prefix, bounds);
+        let closed = space.close(bounds);
+        back && told == live && again == live && closed == ends_at(ends.0, ends.1, bounds.limit)
+    }
+
+    // A heap of so many words whose records end and whose classes begin at these places.
+    fn ends_at(low: u32, high: u32, limit: u32) -> Bounds {
+        Bounds { low, high, limit }
     }
 
     // Garbage at both ends and in the middle of both sides. The record at 5 refers to itself and to the map of its own class, which has it as its name; its raw field
@@ -63,10 +66,11 @@ mod tests {
         space.store(WORDS + 3, 151);
         space.store(WORDS + 7, 13);
         space.store(WORDS + 31, 62);
-        let told = begin(space, &Prefix, 60, 25, 32);
-        give_up(space, 60, 25, 32);
+        let bounds = ends_at(25, 32, 60);
+        let told = begin(space, &Prefix, bounds);
+        give_up(space, bounds);
         let back = has(space, &before);
-        let collected = collects(space, 60, 25, 32, 24, (10, 46));
+        let collected = collects(space, bounds, 24, (10, 46));
         told == 24
             && back
             && collected
@@ -153,26 +157,28 @@ mod tests {
         head(space, 0, 1, 213);
         space.store(2, reference(3, 2));
         chain(other, 0, 222);
-        collects(space, 222, 213, 213, 219, (210, 213)) && alike(space, other, 222)
+        collects(space, ends_at(213, 213, 222), 219, (210, 213)) && alike(space, other, 222)
     }
 
     fn fanned<M: Memory, N: Memory>(space: &mut Space<M>, other: &mut Space<N>) -> bool {
         fan(space, 2, 371);
         head(space, 0, 0, 362);
         fan(other, 0, 371);
-        collects(space, 371, 354, 354, 369, (352, 354)) && alike(space, other, 371)
+        collects(space, ends_at(354, 354, 371), 369, (352, 354)) && alike(space, other, 371)
     }
 
     // No words at all, and a full heap of live objects: the words stay.
     fn bounds<M: Memory>(space: &mut Space<M>) -> bool {
         space.store(0, 5);
         space.store(1, 6);
-        let none = collects(space, 0, 0, 0, 0, (0, 0)) && space.look(0) == 5 && space.look(1) == 6;
+        let none = collects(space, ends_at(0, 0, 0), 0, (0, 0))
+            && space.look(0) == 5
+            && space.look(1) == 6;
         head(space, 0, 0, 2);
         write_layout(space, 2, 0, 6);
         write(space, 6, &[89, 0, 2, 0, 5]);
         space.store(WORDS + 16, reference(2, 3));
-        none && collects(space, 11, 2, 2, 11, (2, 2))
+        none && collects(space, ends_at(2, 2, 11), 11, (2, 2))
             && space.look(0) == 33
             && space.look(1) == 11
             && space.look(2) == 69

@@ -48,7 +48,7 @@ pub returns : goal.returns
 returns g c =
     let inv = c.loop-number.invariant in
     let m : Meaning = g.S.Scheme.meaning c.args.heap.now.scheme in
-    let W : ℕ = c.args.heap.now.limit in
+    let W : ℕ = c.args.heap.now.bounds.limit in
     let left = c.loop-number.number-iterator in
     λ st stands.
     let now = inv.0 st stands in
