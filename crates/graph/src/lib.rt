@@ -152,14 +152,14 @@ impl Refusal {
         ensures { result ≡ refusal_position self }
     {
         match self {
-            Refusal::NoHandle(at) => at,
-            Refusal::NoNumber(at) => at,
-            Refusal::TooWide(at) => at,
-            Refusal::NoPart(at) => at,
-            Refusal::NoRule(at) => at,
-            Refusal::OtherKind(at) => at,
-            Refusal::NoField(at) => at,
-            Refusal::OtherField(at) => at,
+            Refusal::NoHandle(at)
+            | Refusal::NoNumber(at)
+            | Refusal::TooWide(at)
+            | Refusal::NoPart(at)
+            | Refusal::NoRule(at)
+            | Refusal::OtherKind(at)
+            | Refusal::NoField(at)
+            | Refusal::OtherField(at) => at,
             Refusal::Full => 0,
         }
     }

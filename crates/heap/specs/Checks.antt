@@ -3,6 +3,9 @@ use Rattle.std.specs.Prelude.{◌≡◌, ℕ, Bool, true, false, cond, not, ◌|
 use Rattle.graph.specs.declared.Refusal.TheVariants.{OtherKind, NoField, OtherField}
 use Rattle.graph.specs.declared.Refusal.{Refusal}
 use Rattle.graph.specs.Step.{Check, ◌refuses◌, Outcome, judge, kind_of, cells_of, object_of, raw_cell}
+use Rattle.scheme.specs.Meaning.{Meaning}
+use Rattle.heap.specs.Effects.{View}
+use Rattle.heap.specs.Views.{Stands, Means}
 use Rattle.graph.specs.Graph.{Graph, Value, raw, Object, a_record, a_layout, a_map}
 
 -- the outcome where the conditions alone decide
@@ -14,6 +17,10 @@ passing (Err r) = Err r
 pub record Sifts {X : Type 0} (tests : List Check) (P : X → Type 0) (r : Result X Refusal) : Type 0 where
   pub judged : judge tests (Ok (pos 0)) ≡ passing r
   pub gives : IfOk r P
+
+-- what is said of the value that a word stands for, whatever graph and standing objects the heap rests with
+abbrev pub OfValue : Meaning → View → ℕ → (Graph → Value → Type 0) → Type 0
+OfValue m view word Says = (g : Graph) (s : List Bool) (v : Value) → Stands m view g s → Means view.limit g s word v → Says g v
 
 -- the map of a layout
 abbrev pub map_of : Object → ℕ

@@ -7,6 +7,7 @@ use memory::Memory;
 use scheme::Scheme;
 use space::{Bounds, Space};
 
+// C keeps the phase as a number, and may hand back any.
 const RESTING: u32 = 0;
 
 const BEGUN: u32 = 1;

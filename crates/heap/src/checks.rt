@@ -1,12 +1,12 @@
 // Conditions that stop a call, each with its refusal at an argument's position.
 ghost use Rattle.std.specs.Prelude.{◌≡◌, ℕ, ◌+◌, ◌*◌, ◌/◌, ◌<◌, ◌≤◌, min, Bool, true, false, List, [], ◌∷◌, IfOk, slice_index, slice_index_or};
-ghost use Rattle.graph.specs.Graph.{Graph, Value, object_at};
+ghost use Rattle.graph.specs.Graph.{Graph, object_at};
 ghost use Rattle.graph.specs.Numbers.{kind_number};
 ghost use Rattle.graph.specs.Step.{handle, field_count, value_number, in_range, part_number, part_kind, admitted, kind_of, object_kind, object_of, figure_of};
 ghost use Rattle.graph.specs.Words.{reference, place_of};
 ghost use Rattle.heap.specs.Effects.{part_offset};
-ghost use Rattle.heap.specs.Views.{view, Stands, Means};
-ghost use Rattle.heap.specs.Checks.{Sifts, map_of, is_kind, is_parent, is_object, has_field, is_sort};
+ghost use Rattle.heap.specs.Views.{view, Stands};
+ghost use Rattle.heap.specs.Checks.{OfValue, Sifts, map_of, is_kind, is_parent, is_object, has_field, is_sort};
 
 use crate::Heap;
 use codec::header::Shape;
@@ -64,7 +64,7 @@ pub(crate) fn part_at(part: u32, at: u8) -> Result<(Kind, usize), Refusal>
 impl<M: Memory, S: Scheme> Heap<M, S> {
     /// The kind of the value that a word stands for.
     pub(crate) fn kind_of(&self, word: u32) -> Kind
-        ensures { (g : Graph) (s : List Bool) (v : Value) → Stands (S.Scheme.meaning self.now.scheme) (view M.Memory.words self.now) g s → Means self.now.bounds.limit g s word v → kind_number result ≡ kind_of g v }
+        ensures { OfValue (S.Scheme.meaning self.now.scheme) (view M.Memory.words self.now) word (λ g v. kind_number result ≡ kind_of g v) }
     {
         match word % 4 {
             0 => Kind::Empty,
@@ -83,7 +83,7 @@ impl<M: Memory, S: Scheme> Heap<M, S> {
 
     /// The value that a word stands for has the kind.
     pub(crate) fn check_kind(&self, word: u32, kind: Kind, at: u8) -> Result<(), Refusal>
-        ensures { (g : Graph) (s : List Bool) (v : Value) → Stands (S.Scheme.meaning self.now.scheme) (view M.Memory.words self.now) g s → Means self.now.bounds.limit g s word v → Sifts (is_kind g v (kind_number kind) at ∷ []) (λ _. Unit {0}) result }
+        ensures { OfValue (S.Scheme.meaning self.now.scheme) (view M.Memory.words self.now) word (λ g v. Sifts (is_kind g v (kind_number kind) at ∷ []) (λ _. Unit {0}) result) }
     {
         if self.kind_of(word) == kind {
             Ok(())
@@ -109,7 +109,7 @@ impl<M: Memory, S: Scheme> Heap<M, S> {
         raw: bool,
     ) -> Result<usize, Refusal>
         ensures place { IfOk result (λ p. p ≡ word / 4 + (2 + field)) }
-        ensures sifts { (g : Graph) (s : List Bool) (v : Value) → Stands (S.Scheme.meaning self.now.scheme) (view M.Memory.words self.now) g s → Means self.now.bounds.limit g s word v → kind_of g v ≡ 2 → Sifts (has_field g v field at ∷ is_sort g v field raw at ∷ []) (λ p. p ≡ word / 4 + (2 + field)) result }
+        ensures sifts { OfValue (S.Scheme.meaning self.now.scheme) (view M.Memory.words self.now) word (λ g v. kind_of g v ≡ 2 → Sifts (has_field g v field at ∷ is_sort g v field raw at ∷ []) (λ p. p ≡ word / 4 + (2 + field)) result) }
     {
         let place = word as usize / 4;
         let size = self.space.memory.read(place) / 16;
@@ -133,7 +133,7 @@ impl<M: Memory, S: Scheme> Heap<M, S> {
         raw: bool,
     ) -> Result<usize, Refusal>
         ensures place { IfOk result (λ p. p ≡ word / 4 + (2 + field)) }
-        ensures sifts { (g : Graph) (s : List Bool) (v : Value) → Stands (S.Scheme.meaning self.now.scheme) (view M.Memory.words self.now) g s → Means self.now.bounds.limit g s word v → Sifts (is_kind g v 2 at ∷ has_field g v field field_at ∷ is_sort g v field raw field_at ∷ []) (λ p. p ≡ word / 4 + (2 + field)) result }
+        ensures sifts { OfValue (S.Scheme.meaning self.now.scheme) (view M.Memory.words self.now) word (λ g v. Sifts (is_kind g v 2 at ∷ has_field g v field field_at ∷ is_sort g v field raw field_at ∷ []) (λ p. p ≡ word / 4 + (2 + field)) result) }
     {
         self.check_kind(word, Kind::Record, at)?;
         self.field_of(word, field, field_at, raw)
@@ -152,7 +152,7 @@ impl<M: Memory, S: Scheme> Heap<M, S> {
 
     /// The value of a word is a parent: empty or a map.
     pub(crate) fn check_parent(&self, word: u32, at: u8) -> Result<(), Refusal>
-        ensures { (g : Graph) (s : List Bool) (v : Value) → Stands (S.Scheme.meaning self.now.scheme) (view M.Memory.words self.now) g s → Means self.now.bounds.limit g s word v → Sifts (is_parent g v at ∷ []) (λ _. Unit {0}) result }
+        ensures { OfValue (S.Scheme.meaning self.now.scheme) (view M.Memory.words self.now) word (λ g v. Sifts (is_parent g v at ∷ []) (λ _. Unit {0}) result) }
     {
         match self.kind_of(word) {
             Kind::Empty | Kind::Map => Ok(()),
@@ -163,7 +163,7 @@ impl<M: Memory, S: Scheme> Heap<M, S> {
     /// The value of a word is a layout; then how many words its records take. No layout of a heap at rest has more than 32 fields.
     pub(crate) fn record_size(&self, word: u32, at: u8) -> Result<u32, Refusal>
         ensures counted { IfOk result (λ n. n ≡ 2 + min (slice_index (M.Memory.words self.now.space.memory) (word / 4 + 1)) 32) }
-        ensures size { (g : Graph) (s : List Bool) (v : Value) → Stands (S.Scheme.meaning self.now.scheme) (view M.Memory.words self.now) g s → Means self.now.bounds.limit g s word v → Sifts (is_kind g v 3 at ∷ []) (λ n. n ≡ 2 + figure_of (object_of g v)) result }
+        ensures size { OfValue (S.Scheme.meaning self.now.scheme) (view M.Memory.words self.now) word (λ g v. Sifts (is_kind g v 3 at ∷ []) (λ n. n ≡ 2 + figure_of (object_of g v)) result) }
     {
         self.check_kind(word, Kind::Layout, at)?;
         Ok(2 + self.space.memory.read(word as usize / 4 + 1).min(32))
@@ -171,7 +171,7 @@ impl<M: Memory, S: Scheme> Heap<M, S> {
 
     /// The value of a word is an object; then the field count of a record or layout, or the rule of a map.
     pub(crate) fn figure_of(&self, word: u32, at: u8) -> Result<u32, Refusal>
-        ensures { (g : Graph) (s : List Bool) (v : Value) → Stands (S.Scheme.meaning self.now.scheme) (view M.Memory.words self.now) g s → Means self.now.bounds.limit g s word v → Sifts (is_object g v at ∷ []) (λ n. n ≡ figure_of (object_of g v)) result }
+        ensures { OfValue (S.Scheme.meaning self.now.scheme) (view M.Memory.words self.now) word (λ g v. Sifts (is_object g v at ∷ []) (λ n. n ≡ figure_of (object_of g v)) result) }
     {
         let place = value::place_of(word) as usize;
         match self.kind_of(word) {

@@ -24,6 +24,7 @@ pub use aside::{Aside, Phase};
 /// The most words that a heap uses, whatever its memory has.
 pub const WORDS: usize = 16384;
 
+// Each inner step says that the scheme stays. A struct of space and bounds alone would spare them the clause, and lengthen each path to a handle.
 /// A heap at rest: its words and handles, its scheme, and where its two sides end.
 pub struct Heap<M: Memory, S: Scheme> {
     space: Space<M>,

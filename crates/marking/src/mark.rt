@@ -38,6 +38,7 @@ impl Pending {
         }
         let header = space.look(place);
         let slots = space.slots_of(place, header);
+        // By number: each word is looked up in a space that marking alters.
         for i in 1..size_in(header) {
             if slots.is_value(scheme, i) {
                 let word = space.look(place + i);
@@ -53,6 +54,7 @@ impl Pending {
         ensures drained { Drained (S.Scheme.meaning scheme.now) (M.Memory.words space.old.memory) space.old.handles self.old (M.Memory.words space.new.memory) space.new.handles self.new }
         ensures kept { Kept (M.Memory.words space.old.memory) space.old.handles (M.Memory.words space.new.memory) space.new.handles }
     {
+        // Turns are counted, since only a sound heap bounds how often a place becomes pending.
         for turn in 0..WORDS {
             let Some(place) = self.places.pop() else {
                 break;
@@ -73,6 +75,7 @@ impl Pending {
         ensures kept { Kept (M.Memory.words space.old.memory) space.old.handles (M.Memory.words space.new.memory) space.new.handles }
     {
         let mut cursor = from;
+        // Turns are counted, since in wild words a size may be 0: a `while let` would have no measure.
         for turn in 0..WORDS {
             let Some(size) = space.size_at::<T>(cursor, end) else {
                 break;
@@ -100,16 +103,12 @@ impl Pending {
     }
 
     // Marks all that the marked objects lead to: each round over both sides goes on from the marks, and there is another while a place found no room.
-    fn settle<M: Memory, S: Scheme>(
-        &mut self,
-        space: &mut Space<M>,
-        scheme: &S,
-        bounds: Bounds,
-    )
+    fn settle<M: Memory, S: Scheme>(&mut self, space: &mut Space<M>, scheme: &S, bounds: Bounds)
         ensures settled { Settled (S.Scheme.meaning scheme.now) bounds.limit bounds.low bounds.high (M.Memory.words space.old.memory) space.old.handles self.old (M.Memory.words space.new.memory) space.new.handles self.new }
         ensures kept { Kept (M.Memory.words space.old.memory) space.old.handles (M.Memory.words space.new.memory) space.new.handles }
     {
         self.drain(space, scheme);
+        // Rounds are counted, since only a sound heap bounds how often the places run out.
         for round in 0..WORDS {
             if !self.overflow {
                 break;
@@ -122,11 +121,7 @@ impl Pending {
 }
 
 /// Marks the reachable objects, and tells how many words they take.
-pub fn begin<M: Memory, S: Scheme>(
-    space: &mut Space<M>,
-    scheme: &S,
-    bounds: Bounds,
-) -> u32
+pub fn begin<M: Memory, S: Scheme>(space: &mut Space<M>, scheme: &S, bounds: Bounds) -> u32
     ensures { Begins (S.Scheme.meaning scheme.now) bounds.limit bounds.low bounds.high (M.Memory.words space.old.memory) space.old.handles (M.Memory.words space.new.memory) space.new.handles result }
 {
     let mut pending = Pending {

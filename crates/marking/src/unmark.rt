@@ -13,6 +13,7 @@ fn unmark_side<T: Side, M: Memory>(space: &mut Space<M>, from: u32, end: u32)
     ensures kept { Kept (M.Memory.words space.old.memory) space.old.handles (M.Memory.words space.new.memory) space.new.handles }
 {
     let mut cursor = from;
+    // Turns are counted, since in wild words a size may be 0: a `while let` would have no measure.
     for turn in 0..WORDS {
         let Some(size) = space.size_at::<T>(cursor, end) else {
             break;

@@ -28,6 +28,7 @@ impl<M: Memory> Space<M> {
     {
         let mut cursor = from;
         let mut to = from;
+        // Turns are counted, since in wild words a size may be 0: a `while let` would have no measure.
         for turn in 0..WORDS {
             let Some(size) = self.size_at::<T>(cursor, end) else {
                 break;

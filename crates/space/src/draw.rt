@@ -18,6 +18,7 @@ impl<M: Memory> Space<M> {
         ensures threaded { ThreadedWords (values_of (S.Scheme.meaning scheme.now) slots) (M.Memory.words self.old.memory) self.old.handles place size (M.Memory.words self.new.memory) self.new.handles }
         ensures kept { Kept (M.Memory.words self.old.memory) self.old.handles (M.Memory.words self.new.memory) self.new.handles }
     {
+        // By number: each word is looked up in a space that its threading alters.
         for i in 1..size {
             if slots.is_value(scheme, i) && refers(self.look(place + i)) {
                 self.thread(place + i);
@@ -56,6 +57,7 @@ impl<M: Memory> Space<M> {
     {
         let mut cursor = from;
         let mut to = from;
+        // Turns are counted, since in wild words a size may be 0: a `while let` would have no measure.
         for turn in 0..WORDS {
             let Some(size) = self.size_at::<T>(cursor, end) else {
                 break;

@@ -14,6 +14,7 @@ impl<M: Memory> Space<M> {
         ensures moved { Moved T.Side.upward (M.Memory.words self.old.memory) self.old.handles from to size (M.Memory.words self.new.memory) self.new.handles }
         ensures kept { Kept (M.Memory.words self.old.memory) self.old.handles (M.Memory.words self.new.memory) self.new.handles }
     {
+        // By number: a memory has words by place alone, and no slice to copy within.
         for i in 0..size {
             let at = T::order(size, i);
             if at < size {
@@ -28,6 +29,7 @@ impl<M: Memory> Space<M> {
         ensures wiped { Wiped (M.Memory.words self.old.memory) self.old.handles from end (M.Memory.words self.new.memory) self.new.handles }
         ensures kept { Kept (M.Memory.words self.old.memory) self.old.handles (M.Memory.words self.new.memory) self.new.handles }
     {
+        // By place: a memory has no slice to fill.
         for place in from..end {
             self.store(place, 0);
         }

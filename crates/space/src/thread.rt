@@ -24,6 +24,7 @@ impl<M: Memory> Space<M> {
         ensures { Heads (M.Memory.words self.now.memory) self.now.handles place result }
     {
         let mut word = self.look(place);
+        // Turns are counted, since in wild words a list need not end: a `while` would have no measure.
         for turn in 0..ADDRESSES {
             if ends_list(word) {
                 break;
@@ -53,6 +54,7 @@ impl<M: Memory> Space<M> {
     {
         let reference = reference_to(new_place, self.header_of(place));
         let mut word = self.look(place);
+        // Turns are counted, since in wild words a list need not end: a `while` would have no measure.
         for turn in 0..ADDRESSES {
             if ends_list(word) {
                 break;
