@@ -1,5 +1,5 @@
 // Conditions that stop a call, each with its refusal at an argument's position.
-ghost use Rattle.std.specs.Prelude.{◌≡◌, ℕ, ◌+◌, ◌*◌, ◌/◌, ◌<◌, ◌≤◌, min, Bool, true, false, List, [], ◌∷◌, IfOk, slice_index, slice_index_or};
+ghost use Rattle.std.specs.Prelude.{◌≡◌, ℕ, ◌+◌, ◌*◌, ◌/◌, ◌<◌, ◌≤◌, min, Bool, true, false, cond, Ok, Err, List, [], ◌∷◌, IfOk, slice_index, slice_index_or};
 ghost use Rattle.graph.specs.Graph.{Graph, object_at};
 ghost use Rattle.graph.specs.Numbers.{kind_number};
 ghost use Rattle.graph.specs.Step.{handle, field_count, value_number, in_range, part_number, part_kind, admitted, kind_of, object_kind, object_of, figure_of};
@@ -15,37 +15,32 @@ use graph::{Kind, Refusal};
 use memory::Memory;
 use scheme::Scheme;
 
+/// A condition that must hold, else the refusal.
+fn hold(condition: bool, refusal: Refusal) -> Result<(), Refusal>
+    ensures { result ≡ cond condition (Ok tt) (Err refusal) }
+{
+    condition.then_some(()).ok_or(refusal)
+}
+
 /// A handle's number is at most 31.
 pub(crate) fn check_handle(h: u32, at: u8) -> Result<(), Refusal>
     ensures { Sifts (handle h at ∷ []) (λ _. h < 32) result }
 {
-    if h > 31 {
-        Err(Refusal::NoHandle(at))
-    } else {
-        Ok(())
-    }
+    hold(h < 32, Refusal::NoHandle(at))
 }
 
 /// A number is in the range of value words.
 pub(crate) fn check_number(n: i32, at: u8) -> Result<(), Refusal>
     ensures { Sifts (value_number n at ∷ []) (λ _. in_range n ≡ true) result }
 {
-    if value::fits(n) {
-        Ok(())
-    } else {
-        Err(Refusal::NoNumber(at))
-    }
+    hold(value::fits(n), Refusal::NoNumber(at))
 }
 
 /// A field count is at most 32.
 pub(crate) fn check_fields(fields: u32, at: u8) -> Result<(), Refusal>
     ensures { Sifts (field_count fields at ∷ []) (λ _. fields ≤ 32) result }
 {
-    if fields > 32 {
-        Err(Refusal::TooWide(at))
-    } else {
-        Ok(())
-    }
+    hold(fields <= 32, Refusal::TooWide(at))
 }
 
 /// A part's number is at most 3; then the kind that has the part, and the word of it that holds the part.
@@ -85,11 +80,7 @@ impl<M: Memory, S: Scheme> Heap<M, S> {
     pub(crate) fn check_kind(&self, word: u32, kind: Kind, at: u8) -> Result<(), Refusal>
         ensures { OfValue (S.Scheme.meaning self.now.scheme) (view M.Memory.words self.now) word (λ g v. Sifts (is_kind g v (kind_number kind) at ∷ []) (λ _. Unit {0}) result) }
     {
-        if self.kind_of(word) == kind {
-            Ok(())
-        } else {
-            Err(Refusal::OtherKind(at))
-        }
+        hold(self.kind_of(word) == kind, Refusal::OtherKind(at))
     }
 
     /// The rule of the map of a layout, from the layout's reference.
@@ -143,11 +134,7 @@ impl<M: Memory, S: Scheme> Heap<M, S> {
     pub(crate) fn check_rule(&self, rule: u32, at: u8) -> Result<(), Refusal>
         ensures { Sifts (admitted (S.Scheme.meaning self.now.scheme) rule at ∷ []) (λ _. Unit {0}) result }
     {
-        if self.scheme.admits(rule) {
-            Ok(())
-        } else {
-            Err(Refusal::NoRule(at))
-        }
+        hold(self.scheme.admits(rule), Refusal::NoRule(at))
     }
 
     /// The value of a word is a parent: empty or a map.
