@@ -1,6 +1,6 @@
 // The marking of objects, by pending places and, where these overflow, by scans of both sides.
 ghost use Rattle.std.specs.Prelude.{ℕ};
-ghost use Rattle.space.specs.Weave.{Kept};
+ghost use Rattle.space.specs.Keeping.{KeptIn};
 ghost use Rattle.marking.specs.Begins.{Begins};
 ghost use Rattle.marking.specs.Marks.{MarkedAt, Scanned, Drained, Rescanned, Rooted, Settled};
 
@@ -16,7 +16,7 @@ impl Pending {
     // Marks the object at a place, and keeps the place while there is room.
     fn mark_at<M: Memory>(&mut self, space: &mut Space<M>, place: u32)
         ensures marked { MarkedAt (M.Memory.words space.old.memory) space.old.handles self.old place (M.Memory.words space.new.memory) space.new.handles self.new }
-        ensures kept { Kept (M.Memory.words space.old.memory) space.old.handles (M.Memory.words space.new.memory) space.new.handles }
+        ensures kept { KeptIn M.Memory.words space.old space.new }
     {
         let header = space.look(place);
         if is_unmarked(header) {
@@ -31,7 +31,7 @@ impl Pending {
     // Marks what the object at a place names.
     fn scan<M: Memory, S: Scheme>(&mut self, space: &mut Space<M>, scheme: &S, place: u32)
         ensures scanned { Scanned (S.Scheme.meaning scheme.now) (M.Memory.words space.old.memory) space.old.handles self.old place (M.Memory.words space.new.memory) space.new.handles self.new }
-        ensures kept { Kept (M.Memory.words space.old.memory) space.old.handles (M.Memory.words space.new.memory) space.new.handles }
+        ensures kept { KeptIn M.Memory.words space.old space.new }
     {
         if place >= WORDS {
             return;
@@ -52,7 +52,7 @@ impl Pending {
     // Scans until nothing is pending.
     fn drain<M: Memory, S: Scheme>(&mut self, space: &mut Space<M>, scheme: &S)
         ensures drained { Drained (S.Scheme.meaning scheme.now) (M.Memory.words space.old.memory) space.old.handles self.old (M.Memory.words space.new.memory) space.new.handles self.new }
-        ensures kept { Kept (M.Memory.words space.old.memory) space.old.handles (M.Memory.words space.new.memory) space.new.handles }
+        ensures kept { KeptIn M.Memory.words space.old space.new }
     {
         // Turns are counted, since only a sound heap bounds how often a place becomes pending.
         for turn in 0..WORDS {
@@ -72,7 +72,7 @@ impl Pending {
         end: u32,
     )
         ensures rescanned { Rescanned (S.Scheme.meaning scheme.now) T.Side.upward from end (M.Memory.words space.old.memory) space.old.handles self.old (M.Memory.words space.new.memory) space.new.handles self.new }
-        ensures kept { Kept (M.Memory.words space.old.memory) space.old.handles (M.Memory.words space.new.memory) space.new.handles }
+        ensures kept { KeptIn M.Memory.words space.old space.new }
     {
         let mut cursor = from;
         // Turns are counted, since in wild words a size may be 0: a `while let` would have no measure.
@@ -92,7 +92,7 @@ impl Pending {
     // Marks what the handles name.
     fn mark_handles<M: Memory>(&mut self, space: &mut Space<M>)
         ensures rooted { Rooted (M.Memory.words space.old.memory) space.old.handles self.old (M.Memory.words space.new.memory) space.new.handles self.new }
-        ensures kept { Kept (M.Memory.words space.old.memory) space.old.handles (M.Memory.words space.new.memory) space.new.handles }
+        ensures kept { KeptIn M.Memory.words space.old space.new }
     {
         let table = space.handles;
         for (h, word) in table.iter().enumerate() {
@@ -105,7 +105,7 @@ impl Pending {
     // Marks all that the marked objects lead to: each round over both sides goes on from the marks, and there is another while a place found no room.
     fn settle<M: Memory, S: Scheme>(&mut self, space: &mut Space<M>, scheme: &S, bounds: Bounds)
         ensures settled { Settled (S.Scheme.meaning scheme.now) bounds.limit bounds.low bounds.high (M.Memory.words space.old.memory) space.old.handles self.old (M.Memory.words space.new.memory) space.new.handles self.new }
-        ensures kept { Kept (M.Memory.words space.old.memory) space.old.handles (M.Memory.words space.new.memory) space.new.handles }
+        ensures kept { KeptIn M.Memory.words space.old space.new }
     {
         self.drain(space, scheme);
         // Rounds are counted, since only a sound heap bounds how often the places run out.

@@ -1,5 +1,5 @@
 // A collection given up: every mark is taken off.
-ghost use Rattle.space.specs.Weave.{Kept};
+ghost use Rattle.space.specs.Keeping.{KeptIn};
 ghost use Rattle.marking.specs.Unmarks.{UnmarkedSide};
 ghost use Rattle.marking.specs.Begins.{GivesUp};
 
@@ -10,7 +10,7 @@ use space::{Bounds, Classes, Records, Side, Space, WORDS};
 // Takes the marks off a side.
 fn unmark_side<T: Side, M: Memory>(space: &mut Space<M>, from: u32, end: u32)
     ensures unmarked { UnmarkedSide T.Side.upward from end (M.Memory.words space.old.memory) space.old.handles (M.Memory.words space.new.memory) space.new.handles }
-    ensures kept { Kept (M.Memory.words space.old.memory) space.old.handles (M.Memory.words space.new.memory) space.new.handles }
+    ensures kept { KeptIn M.Memory.words space.old space.new }
 {
     let mut cursor = from;
     // Turns are counted, since in wild words a size may be 0: a `while let` would have no measure.

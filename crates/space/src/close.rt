@@ -1,6 +1,6 @@
 // The backward update: records, then classes.
 ghost use Rattle.std.specs.Prelude.{◌≡◌, ◌+◌, ◌≤◌};
-ghost use Rattle.space.specs.Weave.{Kept};
+ghost use Rattle.space.specs.Keeping.{KeptIn};
 ghost use Rattle.space.specs.Pass.{Closed, ClosedSide};
 ghost use Rattle.space.specs.Collect.{Closes};
 
@@ -13,7 +13,7 @@ impl<M: Memory> Space<M> {
     fn close_object<T: Side>(&mut self, place: u32, new_place: u32, size: u32)
         requires { (place + size ≤ 16384) × (new_place + size ≤ 16384) }
         ensures closed { Closed T.Side.upward (M.Memory.words self.old.memory) self.old.handles place new_place size (M.Memory.words self.new.memory) self.new.handles }
-        ensures kept { Kept (M.Memory.words self.old.memory) self.old.handles (M.Memory.words self.new.memory) self.new.handles }
+        ensures kept { KeptIn M.Memory.words self.old self.new }
     {
         self.unthread(place, new_place);
         self.slide::<T>(place, new_place, size);
@@ -24,7 +24,7 @@ impl<M: Memory> Space<M> {
     // Goes over a side, and answers where it now ends.
     fn close_side<T: Side>(&mut self, from: u32, end: u32) -> u32
         ensures closed { ClosedSide T.Side.upward (M.Memory.words self.old.memory) self.old.handles from end result (M.Memory.words self.new.memory) self.new.handles }
-        ensures kept { Kept (M.Memory.words self.old.memory) self.old.handles (M.Memory.words self.new.memory) self.new.handles }
+        ensures kept { KeptIn M.Memory.words self.old self.new }
     {
         let mut cursor = from;
         let mut to = from;
@@ -52,7 +52,7 @@ impl<M: Memory> Space<M> {
     pub fn close(&mut self, bounds: Bounds) -> Bounds
         ensures closed { Closes (M.Memory.words self.old.memory) self.old.handles bounds.limit bounds.low bounds.high result.low result.high (M.Memory.words self.new.memory) self.new.handles }
         ensures limit { result.limit ≡ bounds.limit }
-        ensures kept { Kept (M.Memory.words self.old.memory) self.old.handles (M.Memory.words self.new.memory) self.new.handles }
+        ensures kept { KeptIn M.Memory.words self.old self.new }
     {
         let low = self.close_side::<Records>(0, bounds.low);
         let high = self.close_side::<Classes>(bounds.limit, bounds.high);

@@ -1,6 +1,6 @@
 // The forward update: handles, then records, then classes.
 ghost use Rattle.std.specs.Prelude.{◌≡◌, ◌+◌, ◌/◌, ◌%◌, ◌≤◌};
-ghost use Rattle.space.specs.Weave.{Kept};
+ghost use Rattle.space.specs.Keeping.{KeptIn};
 ghost use Rattle.space.specs.Pass.{ThreadedWords, ThreadedHandles, Visited, DrawnSide};
 ghost use Rattle.space.specs.Slots.{values_of};
 ghost use Rattle.space.specs.Collect.{DrawsRecords, DrawsClasses, Draws};
@@ -16,7 +16,7 @@ impl<M: Memory> Space<M> {
     fn thread_words<S: Scheme>(&mut self, scheme: &S, place: u32, size: u32, slots: Slots)
         requires { place + size ≤ 16384 }
         ensures threaded { ThreadedWords (values_of (S.Scheme.meaning scheme.now) slots) (M.Memory.words self.old.memory) self.old.handles place size (M.Memory.words self.new.memory) self.new.handles }
-        ensures kept { Kept (M.Memory.words self.old.memory) self.old.handles (M.Memory.words self.new.memory) self.new.handles }
+        ensures kept { KeptIn M.Memory.words self.old self.new }
     {
         // By number: each word is looked up in a space that its threading alters.
         for i in 1..size {
@@ -29,7 +29,7 @@ impl<M: Memory> Space<M> {
     // Threads each reference of the handle table.
     fn thread_handles(&mut self)
         ensures threaded { ThreadedHandles (M.Memory.words self.old.memory) self.old.handles (M.Memory.words self.new.memory) self.new.handles }
-        ensures kept { Kept (M.Memory.words self.old.memory) self.old.handles (M.Memory.words self.new.memory) self.new.handles }
+        ensures kept { KeptIn M.Memory.words self.old self.new }
     {
         let table = self.handles;
         for (h, word) in table.iter().enumerate() {
@@ -43,7 +43,7 @@ impl<M: Memory> Space<M> {
     fn visit<S: Scheme>(&mut self, scheme: &S, place: u32, new_place: u32, size: u32, header: u32)
         requires { place + size ≤ 16384 }
         ensures visited { Visited (S.Scheme.meaning scheme.now) (M.Memory.words self.old.memory) self.old.handles place new_place size (header / 4 % 4) (M.Memory.words self.new.memory) self.new.handles }
-        ensures kept { Kept (M.Memory.words self.old.memory) self.old.handles (M.Memory.words self.new.memory) self.new.handles }
+        ensures kept { KeptIn M.Memory.words self.old self.new }
     {
         self.unthread(place, new_place);
         let slots = self.slots_of(place, header);
@@ -53,7 +53,7 @@ impl<M: Memory> Space<M> {
     // Goes over a side.
     fn draw_side<T: Side, S: Scheme>(&mut self, scheme: &S, from: u32, end: u32)
         ensures drawn { DrawnSide (S.Scheme.meaning scheme.now) T.Side.upward (M.Memory.words self.old.memory) self.old.handles from end (M.Memory.words self.new.memory) self.new.handles }
-        ensures kept { Kept (M.Memory.words self.old.memory) self.old.handles (M.Memory.words self.new.memory) self.new.handles }
+        ensures kept { KeptIn M.Memory.words self.old self.new }
     {
         let mut cursor = from;
         let mut to = from;
@@ -75,7 +75,7 @@ impl<M: Memory> Space<M> {
     /// The forward update of the handles and the records.
     pub fn draw_records<S: Scheme>(&mut self, scheme: &S, bounds: Bounds)
         ensures drawn { DrawsRecords (S.Scheme.meaning scheme.now) (M.Memory.words self.old.memory) self.old.handles bounds.low (M.Memory.words self.new.memory) self.new.handles }
-        ensures kept { Kept (M.Memory.words self.old.memory) self.old.handles (M.Memory.words self.new.memory) self.new.handles }
+        ensures kept { KeptIn M.Memory.words self.old self.new }
     {
         self.thread_handles();
         self.draw_side::<Records, S>(scheme, 0, bounds.low);
@@ -84,7 +84,7 @@ impl<M: Memory> Space<M> {
     /// The forward update of the classes, once all records are done: until then every word of a class but its header is as it was.
     pub fn draw_classes<S: Scheme>(&mut self, scheme: &S, bounds: Bounds)
         ensures drawn { DrawsClasses (S.Scheme.meaning scheme.now) (M.Memory.words self.old.memory) self.old.handles bounds.limit bounds.high (M.Memory.words self.new.memory) self.new.handles }
-        ensures kept { Kept (M.Memory.words self.old.memory) self.old.handles (M.Memory.words self.new.memory) self.new.handles }
+        ensures kept { KeptIn M.Memory.words self.old self.new }
     {
         self.draw_side::<Classes, S>(scheme, bounds.limit, bounds.high);
     }
@@ -92,7 +92,7 @@ impl<M: Memory> Space<M> {
     /// The forward update.
     pub fn draw<S: Scheme>(&mut self, scheme: &S, bounds: Bounds)
         ensures drawn { Draws (S.Scheme.meaning scheme.now) (M.Memory.words self.old.memory) self.old.handles bounds.limit bounds.low bounds.high (M.Memory.words self.new.memory) self.new.handles }
-        ensures kept { Kept (M.Memory.words self.old.memory) self.old.handles (M.Memory.words self.new.memory) self.new.handles }
+        ensures kept { KeptIn M.Memory.words self.old self.new }
     {
         self.draw_records(scheme, bounds);
         self.draw_classes(scheme, bounds);

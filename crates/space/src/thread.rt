@@ -1,6 +1,7 @@
 // Threading: the slots that refer to an object form a list that begins at its header's place and ends with the header.
 ghost use Rattle.std.specs.Prelude.{◌≡◌, ◌<◌};
-ghost use Rattle.space.specs.Weave.{reference, Heads, Threaded, Unthreaded, Kept};
+ghost use Rattle.space.specs.Weave.{reference, Heads, Threaded, Unthreaded};
+ghost use Rattle.space.specs.Keeping.{KeptIn};
 
 use crate::{ADDRESSES, Space};
 use codec::header::{Shape, shape_in};
@@ -37,7 +38,7 @@ impl<M: Memory> Space<M> {
     // Threads the reference in the slot.
     pub(crate) fn thread(&mut self, slot: u32)
         ensures woven { Threaded (M.Memory.words self.old.memory) self.old.handles slot (M.Memory.words self.new.memory) self.new.handles }
-        ensures kept { Kept (M.Memory.words self.old.memory) self.old.handles (M.Memory.words self.new.memory) self.new.handles }
+        ensures kept { KeptIn M.Memory.words self.old self.new }
     {
         if slot < ADDRESSES {
             let place = place_of(self.look(slot));
@@ -50,7 +51,7 @@ impl<M: Memory> Space<M> {
     // Takes the list off the header at the place, and has each of its slots refer to the new place.
     pub(crate) fn unthread(&mut self, place: u32, new_place: u32)
         ensures woven { Unthreaded (M.Memory.words self.old.memory) self.old.handles place new_place (M.Memory.words self.new.memory) self.new.handles }
-        ensures kept { Kept (M.Memory.words self.old.memory) self.old.handles (M.Memory.words self.new.memory) self.new.handles }
+        ensures kept { KeptIn M.Memory.words self.old self.new }
     {
         let reference = reference_to(new_place, self.header_of(place));
         let mut word = self.look(place);
