@@ -13,77 +13,47 @@ impl<M: Memory, S: Scheme> Heap<M, S> {
         ensures { Meets M.Memory.words S.Scheme.meaning call self.old self.new (outcome_of (λ n. n) result) }
     {
         match call {
-            Call::Num { handle, number } => {
-                self.num(handle, number)?;
-                Ok(0)
-            }
-            Call::Clear { handle } => {
-                self.clear(handle)?;
-                Ok(0)
-            }
-            Call::Copy { target, source } => {
-                self.copy(target, source)?;
-                Ok(0)
-            }
+            Call::Num { handle, number } => self.num(handle, number).map(|()| 0),
+            Call::Clear { handle } => self.clear(handle).map(|()| 0),
+            Call::Copy { target, source } => self.copy(target, source).map(|()| 0),
             Call::Map {
                 target,
                 rule,
                 name,
                 parent,
-            } => {
-                self.map(target, rule, name, parent)?;
-                Ok(0)
-            }
+            } => self.map(target, rule, name, parent).map(|()| 0),
             Call::Layout {
                 target,
                 fields,
                 map,
-            } => {
-                self.layout(target, fields, map)?;
-                Ok(0)
-            }
-            Call::Record { target, layout } => {
-                self.record(target, layout)?;
-                Ok(0)
-            }
+            } => self.layout(target, fields, map).map(|()| 0),
+            Call::Record { target, layout } => self.record(target, layout).map(|()| 0),
             Call::Load {
                 target,
                 record,
                 field,
-            } => {
-                self.load(target, record, field)?;
-                Ok(0)
-            }
+            } => self.load(target, record, field).map(|()| 0),
             Call::Save {
                 record,
                 field,
                 source,
-            } => {
-                self.save(record, field, source)?;
-                Ok(0)
-            }
-            Call::RawLoad { record, field } => Ok(i64::from(self.rawload(record, field)?)),
+            } => self.save(record, field, source).map(|()| 0),
+            Call::RawLoad { record, field } => self.rawload(record, field).map(i64::from),
             Call::RawSave {
                 record,
                 field,
                 word,
-            } => {
-                self.rawsave(record, field, word)?;
-                Ok(0)
-            }
-            Call::Kind { handle } => Ok(i64::from(self.kind(handle)?.number())),
-            Call::Value { handle } => Ok(i64::from(self.value(handle)?)),
-            Call::Same { first, second } => Ok(i64::from(self.same(first, second)?)),
+            } => self.rawsave(record, field, word).map(|()| 0),
+            Call::Kind { handle } => self.kind(handle).map(|kind| i64::from(kind.number())),
+            Call::Value { handle } => self.value(handle).map(i64::from),
+            Call::Same { first, second } => self.same(first, second).map(i64::from),
             Call::Part {
                 target,
                 object,
                 part,
-            } => {
-                self.part(target, object, part)?;
-                Ok(0)
-            }
-            Call::Figure { handle } => Ok(i64::from(self.figure(handle)?)),
-            Call::Raws { handle } => Ok(i64::from(self.raws(handle)?)),
+            } => self.part(target, object, part).map(|()| 0),
+            Call::Figure { handle } => self.figure(handle).map(i64::from),
+            Call::Raws { handle } => self.raws(handle).map(i64::from),
             Call::Collect => Ok(i64::from(self.collect())),
             Call::Fill => Ok(i64::from(self.fill())),
             Call::Stepped => Ok(i64::from(self.pack())),
