@@ -129,6 +129,7 @@ pub enum Refusal {
     Full,
 }
 
+// Numbers by methods and not by `From`: a refusal has two, and the call `kind` gives a kind its own.
 impl Refusal {
     /// The number by which the refusal is known outside.
     pub fn number(self) -> u8

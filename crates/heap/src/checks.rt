@@ -84,6 +84,7 @@ impl<M: Memory, S: Scheme> Heap<M, S> {
     }
 
     /// The rule of the map of a layout, from the layout's reference.
+    // The space has its own, from a record's place, which asks of each address whether it is a handle's: here none is.
     pub(crate) fn rule_of(&self, word: u32) -> u32
         ensures { (g : Graph) (s : List Bool) (q : ℕ) → Stands (S.Scheme.meaning self.now.scheme) (view M.Memory.words self.now) g s → slice_index_or s q false ≡ true → object_kind (object_at g q) ≡ 3 → word ≡ reference self.now.bounds.limit g s q → result ≡ figure_of (object_at g (map_of (object_at g q))) }
     {

@@ -22,7 +22,7 @@ mod steps;
 pub use aside::{Aside, Phase};
 
 /// The most words that a heap uses, whatever its memory has.
-pub const WORDS: usize = 16384;
+pub const WORDS: usize = space::WORDS as usize;
 
 // Each inner step says that the scheme stays. A struct of space and bounds alone would spare them the clause, and lengthen each path to a handle.
 /// A heap at rest: its words and handles, its scheme, and where its two sides end.

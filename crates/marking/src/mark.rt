@@ -89,7 +89,7 @@ impl Pending {
         }
     }
 
-    // Marks what the handles name.
+    // Marks what the handles name. Drawing goes over them too: the loop is all that the two share, and a closure for its step would have to lend it the space.
     fn mark_handles<M: Memory>(&mut self, space: &mut Space<M>)
         ensures rooted { Rooted (M.Memory.words space.old.memory) space.old.handles self.old (M.Memory.words space.new.memory) space.new.handles self.new }
         ensures kept { KeptIn M.Memory.words space.old space.new }
