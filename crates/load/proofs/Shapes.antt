@@ -1,7 +1,7 @@
 -- Shapes and words as tests.
-use Rattle.std.proofs.Common.{◌≡◌, ℕ, ◌≤◌, Bool, false, leb, List, [], ◌∷◌, map, length, Ok, Err, Decides, Result, sym, refl, ap, ◌∙◌, ⊎_elim, arith}
+use Rattle.std.proofs.Common.{◌≡◌, ℕ, ◌≤◌, leb, List, [], ◌∷◌, map, length, Ok, Err, Decides, Result, sym, refl, ap, ◌∙◌, arith}
 use Rattle.std.specs.Option.{ok_or}
-use Rattle.std.proofs.lemmas.Bool.{cond-true, cond-false, cases_Bool}
+use Rattle.std.proofs.lemmas.Bool.{cond-true, cond-false}
 use Rattle.std.proofs.lemmas.Bool.Decides.{Decides-and, Decides-ltb, Decides-eqb, Decides-like, nat_tests}
 use Rattle.graph.specs.declared.Call.{Call}
 use Rattle.faults.specs.declared.TextFault.{TextFault}
@@ -11,13 +11,11 @@ use Rattle.lexer.specs.Tokens.{Lexeme, lexeme}
 use Rattle.words.specs.declared.Word.{Word}
 use Rattle.load.specs.declared.names.Columns.{Columns}
 use Rattle.load.specs.Steps.{and_then}
+use Rattle.words.proofs.Tells.{not-from}
 use Rattle.load.specs.Calls.{five, call, called_by, parsed, value_at, word_said}
 
 pub decides-leb : (a b : ℕ) → Decides (leb a b) (a ≤ b)
 decides-leb a b = grind (arith, nat_tests)
-
-pub not-from : {P : Type 0} (b : Bool) → Decides b P → (P → ⊥) → b ≡ false
-not-from b d no-P = ⊎_elim (λ t. absurd (no-P (d.0 t))) (λ f. f) (cases_Bool b)
 
 decides-full : (vs : List (List ℕ)) → Decides (full vs) (Full vs)
 decides-full [] = (λ _. tt, λ _. refl)
