@@ -14,7 +14,7 @@ mod tests {
     use std::process::Abort;
     use std::test::Fail;
 
-    // Each line under the names, with the number and the position of its fault; 0 and 0 where it is a call.
+    // Each line under the names, with the number and the position of its fault; 0 and 0, as in the output, where it is a call.
     fn faults_are(rt: &impl Abort, names: &[u8], cases: &[(&[u8], u8, u8)]) -> Result<(), Fail> {
         let Ok(columns) = columns_of(names) else {
             return Err(Fail::new("the names"));

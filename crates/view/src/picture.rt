@@ -38,6 +38,7 @@ impl Picture {
     }
 
     /// Records lie from the left, each behind its header.
+    // Places by hand, for classes too: a step is as long as the object there, which no range knows.
     fn draw_records<M: Memory, S: Scheme>(&mut self, begun: &Begun<M, S>) {
         let mut at = 0u32;
         for _ in 0..WORDS {
