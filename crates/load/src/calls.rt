@@ -172,6 +172,7 @@ fn called(token: Token<'_>) -> Result<Word, TextFault>
 }
 
 /// The call of a line, or its first fault: its shape comes before its word, and that before its arguments from a to d.
+#[tactic(auto, using(crate::proofs::Shapes::five_ok, crate::proofs::Shapes::five_not))]
 pub fn parse_line(columns: &Columns, line: &[u8]) -> Result<Call, TextFault>
     ensures { result ≡ parsed columns.now line.now }
 {
