@@ -18,6 +18,7 @@ impl Argument {
     pub const ALL: [Argument; 4] = [Argument::A, Argument::B, Argument::C, Argument::D];
 
     /// 1 to 4 for a to d, wherever the column stands on the line.
+    // No From: `u8::from` would not say which of its numbers is meant.
     pub fn position(self) -> u8
         ensures { result ≡ argument_position self }
     {
@@ -50,6 +51,7 @@ pub enum TextFault {
 
 impl TextFault {
     /// The number by which the fault is known outside.
+    // No From: a fault has two numbers, this one and its position.
     pub fn number(self) -> u8
         ensures { result ≡ text_number self }
     {

@@ -96,6 +96,7 @@ pub fn tokens_of<'a>(line: &'a [u8]) -> Result<Tokens<'a>, TextFault>
         return Err(TextFault::NoShape);
     }
     let mut lexer = Lexer::over(line);
+    // Written out: `array::try_from_fn` does not promise that each call goes on where the last one stopped.
     let values = [
         lexer.value()?,
         lexer.value()?,

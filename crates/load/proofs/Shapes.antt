@@ -1,9 +1,8 @@
 -- Shapes and words as tests.
-use Rattle.std.proofs.Common.{◌≡◌, ℕ, ◌≤◌, Bool, false, leb, List, [], ◌∷◌, map, length, Ok, Err, Decides, Result, sym, refl, ap, ◌∙◌, ⊎_elim, arith}
+use Rattle.std.proofs.Common.{◌≡◌, ℕ, ◌≤◌, leb, List, [], ◌∷◌, map, length, Ok, Err, Decides, Result, sym, refl, ap, ◌∙◌, arith}
 use Rattle.std.specs.Option.{ok_or}
-use Rattle.std.proofs.lemmas.Bool.{cond-true, cond-false, cases_Bool}
+use Rattle.std.proofs.lemmas.Bool.{cond-true, cond-false}
 use Rattle.std.proofs.lemmas.Bool.Decides.{Decides-and, Decides-ltb, Decides-eqb, Decides-like, nat_tests}
-use Rattle.graph.specs.declared.Call.{Call}
 use Rattle.faults.specs.declared.TextFault.{TextFault}
 use Rattle.faults.specs.declared.TextFault.TheVariants.{NoShape, NoWord}
 use Rattle.lexer.specs.Pieces.{pieces, Full, full, Shaped, shaped}
@@ -11,13 +10,11 @@ use Rattle.lexer.specs.Tokens.{Lexeme, lexeme}
 use Rattle.words.specs.declared.Word.{Word}
 use Rattle.load.specs.declared.names.Columns.{Columns}
 use Rattle.load.specs.Steps.{and_then}
+use Rattle.words.proofs.Tells.{not-from}
 use Rattle.load.specs.Calls.{five, call, called_by, parsed, value_at, word_said}
 
 pub decides-leb : (a b : ℕ) → Decides (leb a b) (a ≤ b)
 decides-leb a b = grind (arith, nat_tests)
-
-pub not-from : {P : Type 0} (b : Bool) → Decides b P → (P → ⊥) → b ≡ false
-not-from b d no-P = ⊎_elim (λ t. absurd (no-P (d.0 t))) (λ f. f) (cases_Bool b)
 
 decides-full : (vs : List (List ℕ)) → Decides (full vs) (Full vs)
 decides-full [] = (λ _. tt, λ _. refl)
@@ -27,20 +24,20 @@ pub decides-shaped : (line : List ℕ) → Decides (shaped line) (Shaped line)
 decides-shaped line =
     Decides-like (shaped line) (λ p. (p.0, p.1.0, p.1.1)) (λ p. (p.0, (p.1, p.2))) (Decides-and _ _ (decides-leb (length line) 80) (Decides-and _ _ (Decides-eqb (length (pieces line)) 5) (decides-full (pieces line))))
 
-pub five-ok : (line : List ℕ) → Shaped line → five line ≡ Ok (map lexeme (pieces line))
-five-ok line h = cond-true _ _ _ ((decides-shaped line).1 h)
+pub five_ok : (line : List ℕ) → Shaped line → five line ≡ Ok (map lexeme (pieces line))
+five_ok line h = cond-true _ _ _ ((decides-shaped line).1 h)
 
-pub five-not : (line : List ℕ) → (Shaped line → ⊥) → five line ≡ Err NoShape
-five-not line h = cond-false _ _ _ (not-from (shaped line) (decides-shaped line) h)
+pub five_not : (line : List ℕ) → (Shaped line → ⊥) → five line ≡ Err NoShape
+five_not line h = cond-false _ _ _ (not-from (shaped line) (decides-shaped line) h)
 
 module _ (p : Columns) (line : List ℕ) where
   pub parsed-shape : (Shaped line → ⊥) → parsed p line ≡ Err NoShape
-  parsed-shape h = ap (λ r. and_then r (called_by p)) (five-not line h)
+  parsed-shape h = ap (λ r. and_then r (called_by p)) (five_not line h)
 
   module _ (vs : List Lexeme) (ok : Shaped line × (vs ≡ map lexeme (pieces line))) where
-    pub parsed-word : (l : Lexeme) (r : Result Word TextFault) → l ≡ value_at vs p.call → r ≡ ok_or (word_said l) NoWord → parsed p line ≡ and_then r (λ w. call w (value_at vs p.a) (value_at vs p.b) (value_at vs p.c) (value_at vs p.d))
+    parsed-word : (l : Lexeme) (r : Result Word TextFault) → l ≡ value_at vs p.call → r ≡ ok_or (word_said l) NoWord → parsed p line ≡ and_then r (λ w. call w (value_at vs p.a) (value_at vs p.b) (value_at vs p.c) (value_at vs p.d))
     parsed-word l r at is =
-        ap (λ f. and_then f (called_by p)) (five-ok line ok.0)
+        ap (λ f. and_then f (called_by p)) (five_ok line ok.0)
         ∙ ap (called_by p) (sym ok.1)
         ∙ ap (λ f. and_then f (λ w. call w (value_at vs p.a) (value_at vs p.b) (value_at vs p.c) (value_at vs p.d))) (ap (λ k. ok_or (word_said k) NoWord) (sym at) ∙ sym is)
 
@@ -49,12 +46,3 @@ module _ (p : Columns) (line : List ℕ) where
 
     pub parsed-call : (l : Lexeme) (r : Result Word TextFault) (w : Word) → l ≡ value_at vs p.call → r ≡ ok_or (word_said l) NoWord → r ≡ Ok w → parsed p line ≡ call w (value_at vs p.a) (value_at vs p.b) (value_at vs p.c) (value_at vs p.d)
     parsed-call l r w at is was = parsed-word l r at is ∙ ap (λ x. and_then x (λ w. call w (value_at vs p.a) (value_at vs p.b) (value_at vs p.c) (value_at vs p.d))) was
-
-    pub ends : (r : Result Call TextFault) (w : Word) (a b c d : Lexeme) → r ≡ call w a b c d → a ≡ value_at vs p.a → b ≡ value_at vs p.b → c ≡ value_at vs p.c → d ≡ value_at vs p.d → parsed p line ≡ call w (value_at vs p.a) (value_at vs p.b) (value_at vs p.c) (value_at vs p.d) → r ≡ parsed p line
-    ends r w a b c d is ea eb ec ed e =
-        is
-        ∙ ap (λ x. call w x b c d) ea
-        ∙ ap (λ x. call w (value_at vs p.a) x c d) eb
-        ∙ ap (λ x. call w (value_at vs p.a) (value_at vs p.b) x d) ec
-        ∙ ap (call w (value_at vs p.a) (value_at vs p.b) (value_at vs p.c)) ed
-        ∙ sym e

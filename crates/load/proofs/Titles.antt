@@ -14,7 +14,8 @@ use Rattle.lexer.proofs.Lexemes.{spelt-lexeme}
 use Rattle.load.specs.declared.names.Columns.{Columns}
 use Rattle.load.specs.Names.{Named, is_word, later, place_in, place, places, columns_in}
 use Rattle.load.specs.Steps.{and_then}
-use Rattle.load.proofs.Shapes.{decides-shaped, not-from}
+use Rattle.load.proofs.Shapes.{decides-shaped}
+use Rattle.words.proofs.Tells.{not-from}
 
 -- a place found behind the first i
 abbrev further : ℕ → Option ℕ → Option ℕ

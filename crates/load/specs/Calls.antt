@@ -9,10 +9,11 @@ use Rattle.faults.specs.declared.TextFault.{TextFault}
 use Rattle.faults.specs.declared.TextFault.TheVariants.{NoShape, NoWord, NoValue}
 use Rattle.numbers.specs.Numbers.{plain, signed, unused}
 use Rattle.lexer.specs.Pieces.{pieces, shaped}
-use Rattle.lexer.specs.Tokens.{Lexeme, word, number, dash, lexeme}
+use Rattle.lexer.specs.Tokens.{Lexeme, word, number, dash, lexeme, said}
 use Rattle.words.specs.declared.Word.{Word}
 use Rattle.words.specs.declared.Word.TheVariants as words
 use Rattle.words.specs.Table.{word_of}
+use Rattle.load.specs.declared.calls.Arguments.{Arguments}
 use Rattle.load.specs.declared.names.Columns.{Columns}
 use Rattle.load.specs.Steps.{and_then}
 
@@ -35,6 +36,12 @@ value_under a b c d D = d
 
 abbrev pub under_names : (a b c d : Lexeme) → List (Lexeme × Argument)
 under_names a b c d = (a, A) ∷ (b, B) ∷ (c, C) ∷ (d, D) ∷ []
+
+abbrev pub value_in : Arguments → Argument → Lexeme
+value_in t = value_under (said t.a) (said t.b) (said t.c) (said t.d)
+
+abbrev pub values_in : Arguments → List (Lexeme × Argument)
+values_in t = under_names (said t.a) (said t.b) (said t.c) (said t.d)
 
 abbrev pub spares : List (Lexeme × Argument) → Result (Unit {0}) TextFault
 spares [] = Ok tt

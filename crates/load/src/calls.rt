@@ -3,7 +3,7 @@ ghost use Rattle.std.specs.Prelude.{◌≡◌, ◌≤◌};
 ghost use Rattle.std.specs.Option.{ok_or};
 ghost use Rattle.lexer.specs.Tokens.{said};
 ghost use Rattle.faults.specs.declared.TextFault.TheVariants.{NoWord};
-ghost use Rattle.load.specs.Calls.{word_said, value_under, under_names, numbers, call, parsed};
+ghost use Rattle.load.specs.Calls.{word_said, value_in, values_in, numbers, call, parsed};
 
 use crate::names::Columns;
 use faults::{Argument, TextFault};
@@ -13,7 +13,8 @@ use numbers::{plain_of, signed_of, unused_of};
 use words::{Word, word_of};
 
 /// The values under the names a to d.
-#[derive(Clone, Copy)]
+// Fields and no array: the rules know each column by its name.
+#[derive(Clone, Copy, Debug)]
 pub struct Arguments<'a> {
     pub a: Token<'a>,
     pub b: Token<'a>,
@@ -23,7 +24,7 @@ pub struct Arguments<'a> {
 
 impl<'a> Arguments<'a> {
     fn under(self, column: Argument) -> Token<'a>
-        ensures { said result ≡ value_under (said self.entry.a) (said self.entry.b) (said self.entry.c) (said self.entry.d) column }
+        ensures { said result ≡ value_in self.entry column }
     {
         match column {
             Argument::A => self.a,
@@ -36,8 +37,9 @@ impl<'a> Arguments<'a> {
     // The numbers under the first N columns; the call does not use those behind.
     fn numbers<const N: usize>(self) -> Result<[u32; N], TextFault>
         requires { N ≤ 4 }
-        ensures { result ≡ numbers N (under_names (said self.entry.a) (said self.entry.b) (said self.entry.c) (said self.entry.d)) }
+        ensures { result ≡ numbers N (values_in self.entry) }
     {
+        // By place: after `get_mut`, or a zip with `iter_mut`, nothing is known of what was written.
         let mut numbers = [0; N];
         for (place, column) in Argument::ALL.iter().enumerate() {
             let token = self.under(*column);
@@ -52,6 +54,7 @@ impl<'a> Arguments<'a> {
 }
 
 /// The call of a word and its arguments, which fill a to d from the left.
+// An arm for each word: each call names its own fields.
 pub fn call_of(word: Word, arguments: Arguments<'_>) -> Result<Call, TextFault>
     ensures { result ≡ call word (said arguments.entry.a) (said arguments.entry.b) (said arguments.entry.c) (said arguments.entry.d) }
 {
@@ -169,6 +172,7 @@ fn called(token: Token<'_>) -> Result<Word, TextFault>
 }
 
 /// The call of a line, or its first fault: its shape comes before its word, and that before its arguments from a to d.
+#[tactic(auto, using(crate::proofs::Shapes::five_ok, crate::proofs::Shapes::five_not))]
 pub fn parse_line(columns: &Columns, line: &[u8]) -> Result<Call, TextFault>
     ensures { result ≡ parsed columns.now line.now }
 {

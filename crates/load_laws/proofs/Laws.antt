@@ -19,10 +19,10 @@ use Rattle.faults.specs.declared.Argument.{Argument}
 use Rattle.faults.specs.declared.Argument.TheVariants.{A, B, C, D}
 use Rattle.faults.specs.declared.TextFault.{TextFault}
 use Rattle.faults.specs.declared.TextFault.TheVariants.{NoShape, NoWord, NoValue}
-use Rattle.load.proofs.Shapes.{decides-shaped, not-from, parsed-shape, parsed-err, parsed-call}
+use Rattle.load.proofs.Shapes.{decides-shaped, parsed-shape, parsed-err, parsed-call}
 use Rattle.load.specs.Calls.{parsed, call, value_at, word_said}
 use Rattle.load.specs.declared.names.Columns.{Columns}
-use Rattle.words.proofs.Tells.{word_some, word_none}
+use Rattle.words.proofs.Tells.{not-from, word_some, word_none}
 use Rattle.words.specs.Table.{name, table, word_in, word_of}
 use Rattle.words.specs.declared.Word.{Word}
 use Rattle.words.specs.declared.Word.TheVariants as words
@@ -159,23 +159,21 @@ came true true false d k = stops C (refl, refl, refl)
 came true false c d k = stops B (refl, refl)
 came false b c d k = stops A refl
 
+abbrev at_position : ℕ → Argument
+at_position zero = A
+at_position (suc zero) = A
+at_position (suc (suc zero)) = B
+at_position (suc (suc (suc zero))) = C
+at_position (suc (suc (suc (suc n)))) = D
+
+position-back : (x : Argument) → at_position (argument_position x) ≡ x
+position-back A = refl
+position-back B = refl
+position-back C = refl
+position-back D = refl
+
 same-argument : (x y : Argument) → argument_position x ≡ argument_position y → x ≡ y
-same-argument A A e = refl
-same-argument A B e = absurd (omega (arith, e))
-same-argument A C e = absurd (omega (arith, e))
-same-argument A D e = absurd (omega (arith, e))
-same-argument B A e = absurd (omega (arith, e))
-same-argument B B e = refl
-same-argument B C e = absurd (omega (arith, e))
-same-argument B D e = absurd (omega (arith, e))
-same-argument C A e = absurd (omega (arith, e))
-same-argument C B e = absurd (omega (arith, e))
-same-argument C C e = refl
-same-argument C D e = absurd (omega (arith, e))
-same-argument D A e = absurd (omega (arith, e))
-same-argument D B e = absurd (omega (arith, e))
-same-argument D C e = absurd (omega (arith, e))
-same-argument D D e = refl
+same-argument x y e = sym (position-back x) ∙ ap at_position e ∙ position-back y
 
 each : (P : Argument → Type 0) → P A → P B → P C → P D → (x : Argument) → P x
 each P a b c d A = a

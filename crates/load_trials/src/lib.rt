@@ -11,14 +11,27 @@ mod tests {
     use load::calls::parse_line;
     use load::names::columns_of;
     use report::loads::open_load;
+    use std::process::Abort;
     use std::test::Fail;
 
-    // A line with the number and the position of its fault; 0 and 0 where it is a call.
-    #[test]
-    fn lines_under_the_names_in_order(rt: HostRuntime) -> Result<(), Fail> {
-        let Ok(columns) = columns_of(b"call a b c d") else {
+    // Each line under the names, with the number and the position of its fault; 0 and 0, as in the output, where it is a call.
+    fn faults_are(rt: &impl Abort, names: &[u8], cases: &[(&[u8], u8, u8)]) -> Result<(), Fail> {
+        let Ok(columns) = columns_of(names) else {
             return Err(Fail::new("the names"));
         };
+        for (line, number, at) in cases {
+            let (n, p) = match parse_line(&columns, line) {
+                Ok(_) => (0, 0),
+                Err(fault) => (fault.number(), fault.position()),
+            };
+            assert_eq!(rt; n, *number);
+            assert_eq!(rt; p, *at);
+        }
+        Ok(())
+    }
+
+    #[test]
+    fn lines_under_the_names_in_order(rt: HostRuntime) -> Result<(), Fail> {
         let cases: [(&[u8], u8, u8); 58] = [
             (b"num 0 0 - -", 0, 0),
             (b"clear 0 - - -", 0, 0),
@@ -79,23 +92,12 @@ mod tests {
             (b"num 0 - - -", 44, 2),
             (b"num -1 -1 - -", 44, 1),
         ];
-        for (line, number, at) in cases {
-            let (n, p) = match parse_line(&columns, line) {
-                Ok(_) => (0, 0),
-                Err(fault) => (fault.number(), fault.position()),
-            };
-            assert_eq!(rt; n, number);
-            assert_eq!(rt; p, at);
-        }
-        Ok(())
+        faults_are(&rt, b"call a b c d", &cases)
     }
 
     // Positions are those of a to d, wherever the columns stand; 80 bytes are a line, 81 are not.
     #[test]
     fn lines_under_other_names(rt: HostRuntime) -> Result<(), Fail> {
-        let Ok(columns) = columns_of(b"d c call b a") else {
-            return Err(Fail::new("the names"));
-        };
         let cases: [(&[u8], u8, u8); 7] = [
             (b"- - num -7 3", 0, 0),
             (b"- - num 3 -7", 44, 1),
@@ -113,15 +115,7 @@ mod tests {
                 0,
             ),
         ];
-        for (line, number, at) in cases {
-            let (n, p) = match parse_line(&columns, line) {
-                Ok(_) => (0, 0),
-                Err(fault) => (fault.number(), fault.position()),
-            };
-            assert_eq!(rt; n, number);
-            assert_eq!(rt; p, at);
-        }
-        Ok(())
+        faults_are(&rt, b"d c call b a", &cases)
     }
 
     // An input with the line and the number of what stops it; 0 and 0 where its lines are read.
@@ -156,9 +150,7 @@ mod tests {
     #[test]
     fn longest_input(rt: HostRuntime) -> Result<(), Fail> {
         let mut input = [b'\n'; 65_537];
-        for (place, byte) in b"call a b c d".iter().enumerate() {
-            input[place] = *byte;
-        }
+        input[..12].copy_from_slice(b"call a b c d");
         assert!(rt; open_load(&input[0..65_536]).is_ok());
         match open_load(&input) {
             Ok(_) => Err(Fail::new("too long")),

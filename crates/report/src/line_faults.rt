@@ -36,6 +36,7 @@ impl CallFault {
     }
 }
 
+// By hand, and the next one too: a derived From has no contract that says which case it makes.
 impl From<TextFault> for CallFault {
     ghost from_gives = { λ e r. r ≡ Text e };
 

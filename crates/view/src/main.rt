@@ -5,53 +5,33 @@ mod picture;
 
 use heap::Heap;
 use input::read_load;
-use lexer::lines::next_line;
-use load::calls::parse_line;
+use lexer::lines::Lines;
 use load::names::Columns;
-use memory::Memory;
 use picture::Picture;
-use report::line_faults::{CallFault, OnLine};
+use report::line_faults::OnLine;
 use report::loads::open_load;
-use report::reports::{Report, report_of};
-use scheme::{Prefix, Scheme};
+use report::reports::report_of;
+use runner::give_line;
+use scheme::Prefix;
 use std::io;
-
-/// The call of a line, given to the heap.
-fn run_text<M: Memory, S: Scheme>(
-    heap: &mut Heap<M, S>,
-    columns: &Columns,
-    line: &[u8],
-) -> Result<i64, CallFault> {
-    let call = parse_line(columns, line)?;
-    let answer = heap.give(call)?;
-    Ok(answer)
-}
 
 /// Runs the lines, and prints for each what it gave and the heap behind it.
 fn draw_lines(rt: &HostRuntime, columns: &Columns, text: &[u8]) -> io::Result<()> {
     let mut words = [0u32; 64];
     let mut heap = Heap::new(&mut words[..], Prefix);
-    let mut rest = text;
-    let mut shown = None;
-    for number in 2..=65_537u32 {
-        let Some((line, after)) = next_line(rest) else {
-            break;
-        };
-        rest = after;
-        let report = report_of(number, run_text(&mut heap, columns, line).on(number));
+    let mut shown = Ok(());
+    for (number, line) in (2..).zip(Lines::over(text)) {
+        let report = report_of(number, give_line(&mut heap, columns, line).on(number));
         let begun = heap.begin();
         let picture = Picture::of(&begun);
         heap = begun.give_up();
-        if let Err(error) = println!(rt; "{picture} {report}") {
-            shown = Some(error);
+        shown = println!(rt; "{picture} {report}");
+        if shown.is_err() {
             break;
         }
     }
     let (_, _) = heap.into_parts();
-    match shown {
-        Some(error) => Err(error),
-        None => Ok(()),
-    }
+    shown
 }
 
 fn main(rt: HostRuntime) -> io::Result<()> {
@@ -60,7 +40,7 @@ fn main(rt: HostRuntime) -> io::Result<()> {
     match open_load(input.as_slice()) {
         Ok(opened) => draw_lines(&rt, &opened.columns, opened.rest),
         Err(fault) => {
-            let report: Report = report_of(fault.line, Err(fault));
+            let report = report_of(fault.line, Err(fault));
             println!(rt; "{report}")
         }
     }

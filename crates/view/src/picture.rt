@@ -6,36 +6,39 @@ use std::fmt;
 
 const WORDS: u32 = 64;
 
-const FREE: u8 = b'.';
+const FREE: char = '.';
 
 /// The characters of the words, by their place.
 #[derive(Clone, Copy)]
 pub struct Picture {
-    words: [u8; 64],
+    words: [char; WORDS as usize],
 }
 
 /// The characters of an object's header and of its other words, from its header: capitals where it is marked, and so live.
-fn letters(header: u32) -> (u8, u8) {
+fn letters(header: u32) -> (char, char) {
     if header / 2 % 2 == 0 {
-        return (b'x', b'-');
+        return ('x', '-');
     }
     match header / 4 % 4 {
-        0 => (b'R', b'r'),
-        1 => (b'L', b'l'),
-        _ => (b'M', b'm'),
+        0 => ('R', 'r'),
+        1 => ('L', 'l'),
+        _ => ('M', 'm'),
     }
 }
 
 impl Picture {
     /// The heap with its reachable objects marked.
     pub fn of<M: Memory, S: Scheme>(begun: &Begun<M, S>) -> Picture {
-        let mut picture = Picture { words: [FREE; 64] };
+        let mut picture = Picture {
+            words: [FREE; WORDS as usize],
+        };
         picture.draw_records(begun);
         picture.draw_classes(begun);
         picture
     }
 
     /// Records lie from the left, each behind its header.
+    // Places by hand, for classes too: a step is as long as the object there, which no range knows.
     fn draw_records<M: Memory, S: Scheme>(&mut self, begun: &Begun<M, S>) {
         let mut at = 0u32;
         for _ in 0..WORDS {
@@ -64,11 +67,11 @@ impl Picture {
 
     fn draw(&mut self, place: u32, size: u32, header: u32) {
         let (head, body) = letters(header);
-        for (at, letter) in self.words.iter_mut().enumerate() {
-            if at == place as usize {
-                *letter = head;
-            } else if at > place as usize && at - (place as usize) < size as usize {
-                *letter = body;
+        let from = place as usize;
+        if let Some(object) = self.words.get_mut(from..from + size as usize) {
+            object.fill(body);
+            if let Some(first) = object.first_mut() {
+                *first = head;
             }
         }
     }
@@ -77,8 +80,7 @@ impl Picture {
 impl fmt::Display for Picture {
     fn fmt<W: fmt::Write>(&self, f: &mut fmt::Formatter<W>) -> fmt::Result {
         for letter in self.words {
-            let c = char::from(letter);
-            write!(f, "{c}")?;
+            f.write_char(letter)?;
         }
         Ok(())
     }

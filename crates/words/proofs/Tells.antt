@@ -6,7 +6,7 @@ use Rattle.words.specs.declared.Word.{Word}
 use Rattle.words.specs.declared.Word.TheVariants as words
 use Rattle.words.specs.Table.{name, word_in, word_of, table}
 
-not-from : {P : Type 0} (b : Bool) → Decides b P → (P → ⊥) → b ≡ false
+pub not-from : {P : Type 0} (b : Bool) → Decides b P → (P → ⊥) → b ≡ false
 not-from b d no-P = ⊎_elim (λ t. absurd (no-P (d.0 t))) (λ f. f) (cases_Bool b)
 
 named : (w : Word) → word_of (name w) ≡ Some w
