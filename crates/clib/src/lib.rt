@@ -33,11 +33,11 @@ pub struct State {
 pub extern "C" fn fusuma_new(words: &mut [u32], state: &mut State, scheme: u32) -> i64
     ensures { Under scheme (λ m. (vs : List ℕ) × Opened m words.old vs state.new.heap result × (state.new.scheme ≡ scheme)) (state.new ≡ state.old) result }
 {
-    number_of(open(&mut *words, &mut *state, scheme))
+    number_of(open_by(words, state, scheme))
 }
 
 /// Opens a heap by the scheme of that number.
-fn open(words: &mut [u32], state: &mut State, scheme: u32) -> Result<i64, TurnError>
+fn open_by(words: &mut [u32], state: &mut State, scheme: u32) -> Result<i64, TurnError>
     ensures { Under scheme (λ m. (vs : List ℕ) × Opened m words.old vs state.new.heap (number_of result) × (state.new.scheme ≡ scheme)) (state.new ≡ state.old) (number_of result) }
 {
     let (kept, used) = Kept::open(words, AnyScheme::try_from(scheme)?);
@@ -47,6 +47,7 @@ fn open(words: &mut [u32], state: &mut State, scheme: u32) -> Result<i64, TurnEr
 }
 
 /// Takes a step of the heap that the state keeps. Answers as the step does, or why nothing was done.
+// The step is lent, not moved in: so it is known afterwards what it left in what it captured, as in the room for answers.
 fn turn<'a, F>(words: &'a mut [u32], state: &mut State, step: &mut F) -> Result<i64, TurnError>
 where
     F: FnMut(Kept<&'a mut [u32], AnyScheme>) -> Turned<&'a mut [u32], AnyScheme>,
@@ -73,11 +74,7 @@ pub extern "C" fn fusuma_give(
 ) -> i64
     ensures { Turn (λ m ws a vs b n. Listed m calls.now answers.old answers.new ws a vs b n) words.old state.old state.new result }
 {
-    number_of(turn(
-        &mut *words,
-        &mut *state,
-        &mut |kept| kept.give(calls, answers),
-    ))
+    number_of(turn(words, state, &mut |kept| kept.give(calls, answers)))
 }
 
 /// A whole collection of a resting heap.
@@ -85,7 +82,7 @@ pub extern "C" fn fusuma_give(
 pub extern "C" fn fusuma_collect(words: &mut [u32], state: &mut State) -> i64
     ensures { Turn Collected words.old state.old state.new result }
 {
-    number_of(turn(&mut *words, &mut *state, &mut |kept| kept.collect()))
+    number_of(turn(words, state, &mut |kept| kept.collect()))
 }
 
 /// Begins a collection.
@@ -93,7 +90,7 @@ pub extern "C" fn fusuma_collect(words: &mut [u32], state: &mut State) -> i64
 pub extern "C" fn fusuma_begin(words: &mut [u32], state: &mut State) -> i64
     ensures { Turn BegunBy words.old state.old state.new result }
 {
-    number_of(turn(&mut *words, &mut *state, &mut |kept| kept.begin()))
+    number_of(turn(words, state, &mut |kept| kept.begin()))
 }
 
 /// Draws a begun heap.
@@ -101,7 +98,7 @@ pub extern "C" fn fusuma_begin(words: &mut [u32], state: &mut State) -> i64
 pub extern "C" fn fusuma_draw(words: &mut [u32], state: &mut State) -> i64
     ensures { Turn DrawnBy words.old state.old state.new result }
 {
-    number_of(turn(&mut *words, &mut *state, &mut |kept| kept.draw()))
+    number_of(turn(words, state, &mut |kept| kept.draw()))
 }
 
 /// Closes a drawn heap.
@@ -109,7 +106,7 @@ pub extern "C" fn fusuma_draw(words: &mut [u32], state: &mut State) -> i64
 pub extern "C" fn fusuma_close(words: &mut [u32], state: &mut State) -> i64
     ensures { Turn ClosedBy words.old state.old state.new result }
 {
-    number_of(turn(&mut *words, &mut *state, &mut |kept| kept.close()))
+    number_of(turn(words, state, &mut |kept| kept.close()))
 }
 
 /// Gives up the collection of a begun heap.
@@ -117,5 +114,5 @@ pub extern "C" fn fusuma_close(words: &mut [u32], state: &mut State) -> i64
 pub extern "C" fn fusuma_give_up(words: &mut [u32], state: &mut State) -> i64
     ensures { Turn GivenUpBy words.old state.old state.new result }
 {
-    number_of(turn(&mut *words, &mut *state, &mut |kept| kept.give_up()))
+    number_of(turn(words, state, &mut |kept| kept.give_up()))
 }

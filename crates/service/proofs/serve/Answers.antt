@@ -1,4 +1,4 @@
-use Rattle.std.proofs.Common.{◌≡◌, ℕ, ◌+◌, min, Bool, List, [], ◌∷◌, ◌++◌, length, get_or, take, drop, replicate, pos, vec_items, sym, refl, ap, ◌∙◌, subst, arith}
+use Rattle.std.proofs.Common.{◌≡◌, ℕ, ◌+◌, min, Bool, List, [], ◌∷◌, ◌++◌, length, get_or, take, drop, replicate, pos, vec_items, sym, ap, ◌∙◌, subst, arith}
 use Rattle.std.proofs.lemmas.List.{take_more, take_all, drop_at, length-replicate}
 use Rattle.scheme.specs.Meaning.{Meaning}
 use Rattle.graph.specs.declared.Call.{Call}
@@ -13,19 +13,6 @@ use Rattle.graph.proofs.Runs.{others-agree}
 use Rattle.heap.specs.Views.{view, Stands, Follows, outcome_of}
 use Rattle.service.proofs.Laws.{StandsAt, more-told, more-stands, more-later, packs-last}
 use Rattle.service.proofs.serve.Goals as goal
-
-pub loop-call-init : goal.loop-call-init
-loop-call-init g c =
-    let made = c.in_ok-answers.ensures in
-    record {
-      told = made.items;
-      stands = subst (λ s. Stands (g.S.Scheme.meaning s) (view {S = g.row.S.Denot} g.M.Memory.words c.new-heap.result) bare []) (sym c.new-heap.ensures.scheme) c.new-heap.ensures.stands;
-      scheme = refl;
-      limit = refl;
-      later = refl;
-      count = made.len;
-      room = made.capacity;
-    }
 
 pub loop-call-preserved : goal.loop-call-preserved
 loop-call-preserved g c =
