@@ -8,7 +8,7 @@ use memory::Memory;
 use scheme::{Mask, Prefix, Scheme};
 use std::io;
 
-// The handles of this program.
+// The handles of this program: numbers, as the calls of the heap take them.
 const MAP: u32 = 0;
 
 const CAR_LAYOUT: u32 = 1;

@@ -57,42 +57,42 @@ fn reference(kind: Kind, place: u32) -> u32 {
     }
 }
 
-/// The place of each object, none for garbage.
-fn places(
-    heap: Global,
-    words: u32,
-    objects: &[Object],
-    reachable: &[bool],
-) -> Result<Vec<Option<u32>>, AllocError> {
-    let mut ends = Ends {
-        low: 0,
-        high: words,
-    };
-    objects
-        .iter()
-        .zip(reachable)
-        .map(|(object, reached)| reached.then(|| ends.place(object)))
-        .collect(heap)
-}
-
 /// Writes the words from the place on.
 fn write(memory: &mut [u32], place: u32, words: &[u32]) {
-    for (old, word) in memory.iter_mut().skip(place as usize).zip(words) {
-        *old = *word;
+    let from = place as usize;
+    if let Some(old) = memory.get_mut(from..from.saturating_add(words.len())) {
+        old.copy_from_slice(words);
     }
 }
 
-/// The objects with their places: what it takes to write a value as a word.
-#[derive(Clone, Copy)]
+/// Every object with its place, none for garbage: what it takes to write a value as a word.
+#[derive(Drop)]
 struct Placed<'a> {
-    objects: &'a [Object],
-    places: &'a [Option<u32>],
+    objects: Vec<(&'a Object, Option<u32>)>,
 }
 
-impl Placed<'_> {
+impl<'a> Placed<'a> {
+    fn among(
+        heap: Global,
+        words: u32,
+        objects: &'a [Object],
+        reachable: &[bool],
+    ) -> Result<Placed<'a>, AllocError> {
+        let mut ends = Ends {
+            low: 0,
+            high: words,
+        };
+        let objects = objects
+            .iter()
+            .zip(reachable)
+            .map(|(object, reached)| (object, reached.then(|| ends.place(object))))
+            .collect(heap)?;
+        Ok(Placed { objects })
+    }
+
     fn object_word(&self, object: usize) -> u32 {
-        match (self.objects.get(object), self.places.get(object)) {
-            (Some(it), Some(Some(place))) => reference(it.kind(), *place),
+        match self.objects.get(object) {
+            Some((it, Some(place))) => reference(it.kind(), *place),
             _ => 0,
         }
     }
@@ -158,13 +158,9 @@ impl Still {
         let heap = self.heap();
         let objects = self.objects();
         let reachable = reachable(heap, self.handles(), objects)?;
-        let places = places(heap, self.words(), objects, &reachable)?;
-        let placed = Placed {
-            objects,
-            places: &places,
-        };
+        let placed = Placed::among(heap, self.words(), objects, &reachable)?;
         let mut words = vec![in heap; 0; self.words() as usize]?;
-        for (object, place) in objects.iter().zip(&places) {
+        for (object, place) in &placed.objects {
             if let Some(place) = place {
                 write(&mut words, *place, &placed.object_words(heap, object)?);
             }

@@ -1,4 +1,4 @@
-// Random loads: which call comes next.
+// Random loads: which call comes next. Choices are matches on drawn numbers, as those of wild calls are.
 ghost use Rattle.std.specs.Prelude.{◌+◌, ◌<◌};
 
 use graph::Call;
