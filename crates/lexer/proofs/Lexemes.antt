@@ -3,7 +3,7 @@ use Rattle.std.proofs.Common.{◌≡◌, ℕ, Bool, true, false, cond, eqb, List
 use Rattle.std.specs.Char.{is_ascii_digit}
 use Rattle.std.proofs.lemmas.Bool.{eqb-true}
 use Rattle.lexer.specs.Tokens.{word, number, behind_minus, lexeme, spelt, left_in}
-use Rattle.lexer.proofs.Cuts.{pieces-some}
+use Rattle.lexer.proofs.Cuts.{pieces_some}
 
 -- no byte of a value is lost
 spelt-behind : (xs : List ℕ) → spelt (behind_minus xs) ≡ 45 ∷ xs
@@ -20,4 +20,4 @@ spelt-lexeme [] = refl
 spelt-lexeme (x ∷ xs) = spelt-first (eqb x 45) (is_ascii_digit x) x xs refl
 
 pub some_left : (o : Option (Bor (List ℕ))) (rest : Bor (List ℕ)) → o ≡ Some rest → left_in o ≡ [] → ⊥
-some_left o rest is e = omega (arith, ap length (sym (ap left_in is) ∙ e), pieces-some rest.now)
+some_left o rest is e = omega (arith, ap length (sym (ap left_in is) ∙ e), pieces_some rest.now)

@@ -35,6 +35,7 @@ pub fn token_of<'a>(value: &'a [u8]) -> Token<'a>
 }
 
 // The value before the first space, and what is behind that space, where there is one.
+#[tactic(auto, using(crate::proofs::Cuts::pieces_more, crate::proofs::Cuts::pieces_last))]
 fn first_value<'a>(text: &'a [u8]) -> (&'a [u8], Option<&'a [u8]>)
     ensures { pieces text.now ≡ result.0.now ∷ left_in result.1 }
 {
@@ -70,6 +71,7 @@ impl<'a> Lexer<'a> {
     }
 
     /// No value may be left.
+    #[tactic(auto, using(crate::proofs::Lexemes::some_left))]
     pub fn end(self) -> Result<(), TextFault>
         ensures { MatchResult result (λ _. left self.entry ≡ []) (λ f. (f ≡ NoShape) × (left self.entry ≢ [])) }
     {

@@ -106,11 +106,11 @@ module _ (line : List ℕ) where
   pub names-told : Said (columns_in line)
   names-told = names-by (shaped line) refl
 
-  pub columns-ok : Shaped line → columns_in line ≡ places (map lexeme (pieces line))
-  columns-ok h = cond-true _ _ _ ((decides-shaped line).1 h)
+  pub columns_ok : Shaped line → columns_in line ≡ places (map lexeme (pieces line))
+  columns_ok h = cond-true _ _ _ ((decides-shaped line).1 h)
 
-  pub columns-not : (Shaped line → ⊥) → columns_in line ≡ Err NoNames
-  columns-not h = cond-false _ _ _ (not-from _ (decides-shaped line) h)
+  pub columns_not : (Shaped line → ⊥) → columns_in line ≡ Err NoNames
+  columns_not h = cond-false _ _ _ (not-from _ (decides-shaped line) h)
 
-  pub told-by : (r : Result Columns TextFault) → r ≡ columns_in line → Said r
-  told-by r e = subst Said (sym e) names-told
+  pub told_by : (r : Result Columns TextFault) → r ≡ columns_in line → Said r
+  told_by r e = subst Said (sym e) names-told

@@ -162,6 +162,7 @@ pub fn call_of(word: Word, arguments: Arguments<'_>) -> Result<Call, TextFault>
     }
 }
 
+#[tactic(auto, using(words::proofs::Tells::word_some, words::proofs::Tells::word_none))]
 fn called(token: Token<'_>) -> Result<Word, TextFault>
     ensures { result ≡ ok_or (word_said (said token.entry)) NoWord }
 {

@@ -47,6 +47,7 @@ fn places_of(tokens: Tokens<'_>) -> Result<Columns, TextFault>
 }
 
 /// The columns, where the line is the five names, each once, in any order. A line over 80 bytes is not.
+#[tactic(auto, using(crate::proofs::Titles::columns_ok, crate::proofs::Titles::columns_not, crate::proofs::Titles::told_by))]
 pub fn columns_of(line: &[u8]) -> Result<Columns, TextFault>
     ensures value { result ≡ columns_in line.now }
     ensures named { MatchResult result (λ c. Named c line.now) (λ f. (f ≡ NoNames) × ((c : Columns) → Named c line.now → ⊥)) }

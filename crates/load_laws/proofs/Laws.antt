@@ -10,7 +10,7 @@ use Rattle.std.proofs.ByRecursion.{all_shuffled}
 use Rattle.std.proofs.lemmas.List.Sums.{sum_by-cons}
 use Rattle.std.proofs.lemmas.Bool.{cond-true, cond-false, both_ways}
 use Rattle.graph.specs.declared.Call.{Call}
-use Rattle.lexer.proofs.Cuts.{pieces-some}
+use Rattle.lexer.proofs.Cuts.{pieces_some}
 use Rattle.lexer.proofs.Lexemes.{spelt-lexeme}
 use Rattle.faults.specs.Faults.{argument_position, text_number, text_position}
 use Rattle.lexer.specs.Pieces.{grown, pieces, Full, Shaped, shaped}
@@ -331,7 +331,7 @@ wide_by : (b : Bool) (x : ℕ) (xs : List ℕ) → suc (length xs) ≡ sum_by wi
 wide_by true x xs h =
     let more : sum_by wide (cond true ([] ∷ pieces xs) (grown x (pieces xs))) ≡ (0 + 1) + sum_by wide (pieces xs) = sum_by-cons wide [] (pieces xs) in
     omega (arith, h, more)
-wide_by false x xs h = ap suc h ∙ sym (wide-grown x (pieces xs) (pieces-some xs))
+wide_by false x xs h = ap suc h ∙ sym (wide-grown x (pieces xs) (pieces_some xs))
 
 wide-line : (line : List ℕ) → suc (length line) ≡ sum_by wide (pieces line)
 wide-line [] = refl
@@ -364,14 +364,14 @@ module _ (p q : Columns) (line other : List ℕ) (r : Reordered p line q other) 
       ∙ ap (judge w) (λ i x. r.alike x i)
       ∙ sym (gives-judged q other w (there c.0, sym r.calls_alike ∙ c.1))
 
-pub gives-call-exactly : GivesCallExactly
-gives-call-exactly = exactly
+pub gives_call_exactly : GivesCallExactly
+gives_call_exactly = exactly
 
-pub faults-in-order : FaultsInOrder
-faults-in-order = in_order
+pub faults_in_order : FaultsInOrder
+faults_in_order = in_order
 
-pub first-column-named : FirstColumnNamed
-first-column-named = column-named
+pub first_column_named : FirstColumnNamed
+first_column_named = column-named
 
-pub any-order-of-names : AnyOrderOfNames
-any-order-of-names p q line other r = reordered-way p q line other r (way p line)
+pub any_order_of_names : AnyOrderOfNames
+any_order_of_names p q line other r = reordered-way p q line other r (way p line)

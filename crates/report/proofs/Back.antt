@@ -10,7 +10,7 @@ use Rattle.std.proofs.lemmas.Str.Parse.{IsNumeralModel, numerals_by_fold, tells_
 use Rattle.std.proofs.lemmas.Bool.{cond-false, ne_eqb}
 use Rattle.numbers.specs.Numbers.{read_on}
 use Rattle.lexer.specs.Pieces.{Lacks, lines, pieces}
-use Rattle.lexer.proofs.Cuts.{pieces_more, pieces-last, lines_more}
+use Rattle.lexer.proofs.Cuts.{pieces_more, pieces_last, lines_more}
 use Rattle.report.specs.declared.reports.Report.{Report}
 use Rattle.report.specs.declared.reports.Stop.{Stop}
 use Rattle.report.specs.Reports.{state, number, position, shown_report, written}
@@ -71,7 +71,7 @@ module _ (r : Report) (fits : Fits r) where
       pieces_more (decimal r.line) _ (lacks-decimal 32 spaces r.line line-fits)
       ∙ ap (λ ps. decimal r.line ∷ ps) (pieces_more (state r.outcome) _ (lacks-state 32 (omega arith) r.outcome)
       ∙ ap (λ ps. state r.outcome ∷ ps) (pieces_more (signed_decimal (number r.outcome)) _ (lacks-signed 32 spaces (λ e. omega (arith, e)) (number r.outcome) fits.number)
-      ∙ ap (λ ps. signed_decimal (number r.outcome) ∷ ps) (pieces-last (decimal (position r.outcome)) (lacks-decimal 32 spaces (position r.outcome) at-fits))))
+      ∙ ap (λ ps. signed_decimal (number r.outcome) ∷ ps) (pieces_last (decimal (position r.outcome)) (lacks-decimal 32 spaces (position r.outcome) at-fits))))
 
   back : read_report (shown_report r) ≡ Some r
   back =
@@ -99,5 +99,5 @@ written_back (r ∷ rs) fits =
     ∙ ap (λ o. o ∷ map read_report (lines (written rs))) (back r fits.0)
     ∙ ap (λ os. Some r ∷ os) (written_back rs fits.1)
 
-pub output-back : OutputReadBack
-output-back rs fits = ap (λ os. None ∷ os) (written_back rs fits)
+pub output_back : OutputReadBack
+output_back rs fits = ap (λ os. None ∷ os) (written_back rs fits)

@@ -73,6 +73,7 @@ pub fn output_of(heap: Global, reports: &[Report]) -> Result<String, AllocError>
 }
 
 /// What a printed line shows is read back as the same report, and the output as the same reports.
+#[tactic(auto, using(crate::proofs::Back::read_back, crate::proofs::Back::output_back))]
 pub fn reports_are_read_back() -> u8
     ensures line { ReadBack }
     ensures whole { OutputReadBack }

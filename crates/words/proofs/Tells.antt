@@ -1,5 +1,5 @@
 -- The table tells each word by its name.
-use Rattle.std.proofs.Common.{◌≡◌, ℕ, Bool, false, List, [], ◌∷◌, Some, None, Decides, Option, MatchOption, sym, refl, ap, ◌∙◌, ⊎_elim}
+use Rattle.std.proofs.Common.{◌≡◌, ℕ, Bool, false, List, [], ◌∷◌, Some, None, Decides, refl, ap, ◌∙◌, ⊎_elim}
 use Rattle.std.proofs.lemmas.Slice.Eq.{bytes_eq-Decides}
 use Rattle.std.proofs.lemmas.Bool.{cond-false, cases_Bool}
 use Rattle.words.specs.declared.Word.{Word}
@@ -38,7 +38,3 @@ word_some bs w e = ap word_of e ∙ named w
 
 pub word_none : (bs : List ℕ) → ((w : Word) → bs ≡ name w → ⊥) → word_of bs ≡ None
 word_none bs h = none_in table bs h
-
-pub told : (bs : List ℕ) (o : Option Word) → MatchOption o ((w : Word) → bs ≡ name w → ⊥) (λ w. bs ≡ name w) → o ≡ word_of bs
-told bs None h = sym (word_none bs h)
-told bs (Some w) e = sym (word_some bs w e)
