@@ -9,29 +9,24 @@ pub fn tables() -> u8 {
 #[cfg(test)]
 mod tests {
     use load::calls::parse_line;
-    use load::names::columns_of;
+    use load::names::{Columns, columns_of};
     use report::loads::open_load;
-    use std::process::Abort;
     use std::test::Fail;
 
-    // Each line under the names, with the number and the position of its fault; 0 and 0, as in the output, where it is a call.
-    fn faults_are(rt: &impl Abort, names: &[u8], cases: &[(&[u8], u8, u8)]) -> Result<(), Fail> {
-        let Ok(columns) = columns_of(names) else {
-            return Err(Fail::new("the names"));
-        };
-        for (line, number, at) in cases {
-            let (n, p) = match parse_line(&columns, line) {
-                Ok(_) => (0, 0),
-                Err(fault) => (fault.number(), fault.position()),
-            };
-            assert_eq!(rt; n, *number);
-            assert_eq!(rt; p, *at);
+    // The number and the position of a line's fault; 0 and 0, as in the output, where it is a call.
+    fn told(columns: &Columns, line: &[u8]) -> (u8, u8) {
+        match parse_line(columns, line) {
+            Ok(_) => (0, 0),
+            Err(fault) => (fault.number(), fault.position()),
         }
-        Ok(())
     }
 
+    // A line with what is told of it.
     #[test]
     fn lines_under_the_names_in_order(rt: HostRuntime) -> Result<(), Fail> {
+        let Ok(columns) = columns_of(b"call a b c d") else {
+            return Err(Fail::new("the names"));
+        };
         let cases: [(&[u8], u8, u8); 58] = [
             (b"num 0 0 - -", 0, 0),
             (b"clear 0 - - -", 0, 0),
@@ -92,12 +87,18 @@ mod tests {
             (b"num 0 - - -", 44, 2),
             (b"num -1 -1 - -", 44, 1),
         ];
-        faults_are(&rt, b"call a b c d", &cases)
+        for (line, number, at) in cases {
+            assert_eq!(rt; told(&columns, line), (number, at));
+        }
+        Ok(())
     }
 
     // Positions are those of a to d, wherever the columns stand; 80 bytes are a line, 81 are not.
     #[test]
     fn lines_under_other_names(rt: HostRuntime) -> Result<(), Fail> {
+        let Ok(columns) = columns_of(b"d c call b a") else {
+            return Err(Fail::new("the names"));
+        };
         let cases: [(&[u8], u8, u8); 7] = [
             (b"- - num -7 3", 0, 0),
             (b"- - num 3 -7", 44, 1),
@@ -115,7 +116,10 @@ mod tests {
                 0,
             ),
         ];
-        faults_are(&rt, b"d c call b a", &cases)
+        for (line, number, at) in cases {
+            assert_eq!(rt; told(&columns, line), (number, at));
+        }
+        Ok(())
     }
 
     // An input with the line and the number of what stops it; 0 and 0 where its lines are read.

@@ -22,6 +22,7 @@ use scheme::{Prefix, Scheme};
 use std::alloc::{AllocError, Global};
 
 /// The call of a line, given to the heap.
+// Heap and columns are no struct: who draws the heap between two lines moves it, and keeps the columns.
 pub fn give_line<M: Memory, S: Scheme>(
     heap: &mut Heap<M, S>,
     columns: &Columns,
