@@ -205,6 +205,7 @@ impl Still {
             .ok_or(Refusal::NoField(record.field_at()))
     }
 
+    // Two that differ in a variant, as the look-ups above do.
     fn value_field(&self, record: Held, field: u32) -> Result<Value, Refusal> {
         match self.field_in(record, field)? {
             Field::Value(value) => Ok(value),

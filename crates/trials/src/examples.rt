@@ -574,6 +574,7 @@ impl Example {
         let mut beside = Beside::new(alloc, self.length, S::RULES)?;
         let mut heap = Heap::new(memory, scheme);
         let mut all = true;
+        // a `for`, since each call takes the heap and gives it back
         for (call, outcome) in self.steps {
             let (next, answer) = heap.run(*call);
             heap = next;

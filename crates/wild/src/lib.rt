@@ -63,7 +63,7 @@ impl Wild {
     }
 }
 
-// Arguments: their tables differ in how often each arm comes, so that one function for all would take a number for each that it saves.
+// Arguments: their tables differ in how often each arm comes and in its bounds; one function for all would take these as numbers, and be no plainer.
 impl Wild {
     /// Mostly one of these handles; else any, among them 32 and 33, which are none.
     fn handle(&mut self, mostly: Range<u32>) -> u32
