@@ -1,6 +1,6 @@
 -- The start of marking, its handles, its rounds and its end.
-use Rattle.std.proofs.Common.{◌≡◌, ℕ, ◌+◌, ◌/◌, ◌%◌, ◌<◌, ◌≤◌, Bool, true, false, cond, ltb, List, length, get_or, sym, refl, ap, ◌∙◌, subst, inl, inr, arith}
-use Rattle.std.proofs.lemmas.Bool.{both_ways, le-leb, lt-leb, le-ltb, lt-ltb, cases_eq}
+use Rattle.std.proofs.Common.{◌≡◌, ℕ, ◌+◌, ◌/◌, ◌<◌, ◌≤◌, Bool, true, false, cond, ltb, List, length, get_or, sym, refl, ap, ◌∙◌, subst, inl, inr, arith}
+use Rattle.std.proofs.lemmas.Bool.{both_ways, le-ltb, lt-ltb, cases_eq}
 use Rattle.scheme.specs.Meaning.{Meaning}
 use Rattle.space.specs.Weave.{view}
 use Rattle.graph.specs.Places.{refers}

@@ -1,4 +1,6 @@
 // A heap of 64 words, drawn: one character for each word.
+use codec::header::{Shape, is_marked, shape_in, size_in};
+use codec::link::ends_list;
 use heap::Begun;
 use memory::Memory;
 use scheme::Scheme;
@@ -16,12 +18,12 @@ pub struct Picture {
 
 /// The characters of an object's header and of its other words, from its header: capitals where it is marked, and so live.
 fn letters(header: u32) -> (char, char) {
-    if header / 2 % 2 == 0 {
+    if !is_marked(header) {
         return ('x', '-');
     }
-    match header / 4 % 4 {
-        0 => ('R', 'r'),
-        1 => ('L', 'l'),
+    match shape_in(header) {
+        Some(Shape::Record) => ('R', 'r'),
+        Some(Shape::Layout) => ('L', 'l'),
         _ => ('M', 'm'),
     }
 }
@@ -43,8 +45,8 @@ impl Picture {
         let mut at = 0u32;
         for _ in 0..WORDS {
             let header = begun.word(at);
-            let size = header / 16;
-            if at >= WORDS || header % 2 == 0 || size > WORDS - at {
+            let size = size_in(header);
+            if at >= WORDS || !ends_list(header) || size > WORDS - at {
                 break;
             }
             self.draw(at, size, header);

@@ -1,12 +1,9 @@
 use Rattle.std.proofs.Common.{ℕ, ◌%◌, sym, ap, ◌∙◌, inl, inr}
 use Rattle.std.proofs.lemmas.Bool.{eqb-true, eqb-false}
-use Rattle.space.proofs.Wovens.{kept_refl, kept_then}
+use Rattle.space.proofs.Wovens.{kept_then}
 use Rattle.marking.proofs.Walks.{walk-stop, size-read, place-small, walk_start, walk-scan, walk-skip, walk_end}
 use Rattle.marking.proofs.Pending.rescan.Goals as goal
 use Rattle.marking.proofs.Pending.rescan.Goals.{then-is_marked, else-is_marked}
-
-pub loop-turn-init : goal.loop-turn-init
-loop-turn-init g c = (kept_refl _ _, λ P limit so C all roots rounds e f w. w)
 
 pub loop-turn-preserved : goal.loop-turn-preserved
 loop-turn-preserved g c =

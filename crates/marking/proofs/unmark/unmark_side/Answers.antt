@@ -1,13 +1,10 @@
 use Rattle.std.proofs.Common.{ℕ, ◌%◌, sym, ap, ◌∙◌, inl, inr}
 use Rattle.std.proofs.lemmas.Bool.{eqb-true, eqb-false}
-use Rattle.space.proofs.Wovens.{kept_refl, kept_then}
+use Rattle.space.proofs.Wovens.{kept_then}
 use Rattle.marking.proofs.Walks.{walk-stop, size-read, place-small}
 use Rattle.marking.proofs.Fades.{clear-start, clear-off, clear-skip, clear-end}
 use Rattle.marking.proofs.unmark.unmark_side.Goals as goal
 use Rattle.marking.proofs.unmark.unmark_side.Goals.{then-is_marked, else-is_marked}
-
-pub loop-turn-init : goal.loop-turn-init
-loop-turn-init g c = (kept_refl _ _, λ m P limit so C all e f w. w)
 
 pub loop-turn-preserved : goal.loop-turn-preserved
 loop-turn-preserved g c =
