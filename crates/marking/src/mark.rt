@@ -77,15 +77,14 @@ impl Pending {
         let mut cursor = from;
         // Turns are counted, since in wild words a size may be 0: a `while let` would have no measure.
         for turn in 0..WORDS {
-            let Some(size) = space.size_at::<T>(cursor, end) else {
+            let Some(object) = space.object_at::<T>(cursor, end) else {
                 break;
             };
-            let place = T::place(cursor, size);
-            if is_marked(space.look(place)) {
-                self.scan(space, scheme, place);
+            if is_marked(space.look(object.place)) {
+                self.scan(space, scheme, object.place);
                 self.drain(space, scheme);
             }
-            cursor = T::next(cursor, size);
+            cursor = T::next(cursor, object.size);
         }
     }
 

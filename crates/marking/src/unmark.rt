@@ -15,15 +15,14 @@ fn unmark_side<T: Side, M: Memory>(space: &mut Space<M>, from: u32, end: u32)
     let mut cursor = from;
     // Turns are counted, since in wild words a size may be 0: a `while let` would have no measure.
     for turn in 0..WORDS {
-        let Some(size) = space.size_at::<T>(cursor, end) else {
+        let Some(object) = space.object_at::<T>(cursor, end) else {
             break;
         };
-        let place = T::place(cursor, size);
-        let header = space.look(place);
+        let header = space.look(object.place);
         if is_marked(header) {
-            space.store(place, header - 2);
+            space.store(object.place, header - 2);
         }
-        cursor = T::next(cursor, size);
+        cursor = T::next(cursor, object.size);
     }
 }
 

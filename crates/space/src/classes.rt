@@ -1,7 +1,7 @@
 // The classes' side.
 ghost use Rattle.std.specs.Prelude.{Bool, false};
 
-use crate::{Bounds, Side, Space};
+use crate::{Bounds, Object, Side, Space};
 use codec::value::to_class;
 use memory::Memory;
 
@@ -11,8 +11,14 @@ pub struct Classes;
 impl Side for Classes {
     ghost upward = { false };
 
-    fn size<M: Memory>(space: &Space<M>, cursor: u32) -> u32 {
-        space.look(cursor.saturating_sub(1))
+    fn read<M: Memory>(space: &Space<M>, cursor: u32) -> Object {
+        let size = space.look(cursor.saturating_sub(1));
+        let place = cursor.saturating_sub(size);
+        Object {
+            place,
+            size,
+            header: space.header_of(place),
+        }
     }
 
     fn place(cursor: u32, size: u32) -> u32 {

@@ -1,22 +1,23 @@
 // The backward update: records, then classes.
 ghost use Rattle.std.specs.Prelude.{◌≡◌, ◌+◌, ◌≤◌};
 ghost use Rattle.space.specs.Keeping.{KeptIn};
+ghost use Rattle.space.specs.Weave.{Heads};
 ghost use Rattle.space.specs.Pass.{Closed, ClosedSide};
 ghost use Rattle.space.specs.Collect.{Closes};
 
-use crate::{Bounds, Classes, Records, Side, Space, WORDS};
+use crate::{Bounds, Classes, Object, Records, Side, Space, WORDS};
 use codec::header::is_marked;
 use memory::Memory;
 
 impl<M: Memory> Space<M> {
     // A marked object: its list is unthreaded to the new place, then it is moved and unmarked.
-    fn close_object<T: Side>(&mut self, place: u32, new_place: u32, size: u32)
-        requires { (place + size ≤ 16384) × (new_place + size ≤ 16384) }
-        ensures closed { Closed T.Side.upward (M.Memory.words self.old.memory) self.old.handles place new_place size (M.Memory.words self.new.memory) self.new.handles }
+    fn close_object<T: Side>(&mut self, object: Object, new_place: u32)
+        requires { (object.place + object.size ≤ 16384) × (new_place + object.size ≤ 16384) }
+        ensures closed { Heads (M.Memory.words self.old.memory) self.old.handles object.place object.header → Closed T.Side.upward (M.Memory.words self.old.memory) self.old.handles object.place new_place object.size (M.Memory.words self.new.memory) self.new.handles }
         ensures kept { KeptIn M.Memory.words self.old self.new }
     {
-        self.unthread(place, new_place);
-        self.slide::<T>(place, new_place, size);
+        self.unthread(object.place, new_place, object.header);
+        self.slide::<T>(object.place, new_place, object.size);
         let header = self.look(new_place);
         self.store(new_place, header.saturating_sub(2));
     }
@@ -30,20 +31,18 @@ impl<M: Memory> Space<M> {
         let mut to = from;
         // Turns are counted, since in wild words a size may be 0: a `while let` would have no measure.
         for turn in 0..WORDS {
-            let Some(size) = self.size_at::<T>(cursor, end) else {
+            let Some(object) = self.object_at::<T>(cursor, end) else {
                 break;
             };
-            let place = T::place(cursor, size);
-            let new_place = T::place(to, size);
-            if new_place > WORDS || size > WORDS - new_place {
+            let new_place = T::place(to, object.size);
+            if new_place > WORDS || object.size > WORDS - new_place {
                 break;
             }
-            let header = self.header_of(place);
-            if is_marked(header) {
-                self.close_object::<T>(place, new_place, size);
-                to = T::next(to, size);
+            if is_marked(object.header) {
+                self.close_object::<T>(object, new_place);
+                to = T::next(to, object.size);
             }
-            cursor = T::next(cursor, size);
+            cursor = T::next(cursor, object.size);
         }
         to
     }

@@ -1,11 +1,12 @@
 // The forward update: handles, then records, then classes.
 ghost use Rattle.std.specs.Prelude.{◌≡◌, ◌+◌, ◌/◌, ◌%◌, ◌≤◌};
 ghost use Rattle.space.specs.Keeping.{KeptIn};
+ghost use Rattle.space.specs.Weave.{Heads};
 ghost use Rattle.space.specs.Pass.{ThreadedWords, ThreadedHandles, Visited, DrawnSide};
 ghost use Rattle.space.specs.Slots.{values_of};
 ghost use Rattle.space.specs.Collect.{DrawsRecords, DrawsClasses, Draws};
 
-use crate::{Bounds, Classes, Records, Side, Slots, Space, WORDS};
+use crate::{Bounds, Classes, Object, Records, Side, Slots, Space, WORDS};
 use codec::header::is_marked;
 use codec::value::refers;
 use memory::Memory;
@@ -40,14 +41,14 @@ impl<M: Memory> Space<M> {
     }
 
     // A marked object: its list is unthreaded to the new place, then its references are threaded.
-    fn visit<S: Scheme>(&mut self, scheme: &S, place: u32, new_place: u32, size: u32, header: u32)
-        requires { place + size ≤ 16384 }
-        ensures visited { Visited (S.Scheme.meaning scheme.now) (M.Memory.words self.old.memory) self.old.handles place new_place size (header / 4 % 4) (M.Memory.words self.new.memory) self.new.handles }
+    fn visit<S: Scheme>(&mut self, scheme: &S, object: Object, new_place: u32)
+        requires { object.place + object.size ≤ 16384 }
+        ensures visited { Heads (M.Memory.words self.old.memory) self.old.handles object.place object.header → Visited (S.Scheme.meaning scheme.now) (M.Memory.words self.old.memory) self.old.handles object.place new_place object.size (object.header / 4 % 4) (M.Memory.words self.new.memory) self.new.handles }
         ensures kept { KeptIn M.Memory.words self.old self.new }
     {
-        self.unthread(place, new_place);
-        let slots = self.slots_of(place, header);
-        self.thread_words(scheme, place, size, slots);
+        self.unthread(object.place, new_place, object.header);
+        let slots = self.slots_of(object.place, object.header);
+        self.thread_words(scheme, object.place, object.size, slots);
     }
 
     // Goes over a side.
@@ -59,16 +60,14 @@ impl<M: Memory> Space<M> {
         let mut to = from;
         // Turns are counted, since in wild words a size may be 0: a `while let` would have no measure.
         for turn in 0..WORDS {
-            let Some(size) = self.size_at::<T>(cursor, end) else {
+            let Some(object) = self.object_at::<T>(cursor, end) else {
                 break;
             };
-            let place = T::place(cursor, size);
-            let header = self.header_of(place);
-            if is_marked(header) {
-                self.visit(scheme, place, T::place(to, size), size, header);
-                to = T::next(to, size);
+            if is_marked(object.header) {
+                self.visit(scheme, object, T::place(to, object.size));
+                to = T::next(to, object.size);
             }
-            cursor = T::next(cursor, size);
+            cursor = T::next(cursor, object.size);
         }
     }
 

@@ -1,7 +1,7 @@
 // The records' side.
 ghost use Rattle.std.specs.Prelude.{Bool, true};
 
-use crate::{Bounds, Side, Space};
+use crate::{Bounds, Object, Side, Space};
 use codec::header::size_in;
 use codec::value::to_record;
 use memory::Memory;
@@ -12,8 +12,13 @@ pub struct Records;
 impl Side for Records {
     ghost upward = { true };
 
-    fn size<M: Memory>(space: &Space<M>, cursor: u32) -> u32 {
-        size_in(space.header_of(cursor))
+    fn read<M: Memory>(space: &Space<M>, cursor: u32) -> Object {
+        let header = space.header_of(cursor);
+        Object {
+            place: cursor,
+            size: size_in(header),
+            header,
+        }
     }
 
     fn place(cursor: u32, size: u32) -> u32 {

@@ -1,18 +1,27 @@
 // The two sides of a heap: records from the left by their headers, classes from the right by their boundary tags.
 ghost use Rattle.std.specs.Prelude.{◌≡◌, ◌+◌, ◌*◌, ◌^◌, ◌<◌, Bool};
 ghost use Rattle.space.specs.Ends.{innermost, taken, tag_by};
-ghost use Rattle.space.specs.Pass.{Sized, place_by, next_by, gap_by, order_by, Came};
+ghost use Rattle.space.specs.Pass.{place_by, next_by, gap_by, order_by};
+ghost use Rattle.space.specs.Met.{Read, Met};
 
 use crate::{Bounds, Space, WORDS};
 use memory::Memory;
+
+/// An object as a walk meets it: where it lies, how many words it takes, and the header at the end of its list.
+#[derive(Clone, Copy)]
+pub struct Object {
+    pub place: u32,
+    pub size: u32,
+    pub header: u32,
+}
 
 // A side of the heap: the way in which a cursor goes over its objects.
 pub trait Side {
     ghost upward: { Bool };
 
-    // The size of the object that the cursor has come to.
-    fn size<M: Memory>(space: &Space<M>, cursor: u32) -> u32
-        ensures { Sized upward (M.Memory.words space.now.memory) space.now.handles cursor result };
+    // The object that the cursor has come to, whose list is followed once for its header.
+    fn read<M: Memory>(space: &Space<M>, cursor: u32) -> Object
+        ensures { Read upward (M.Memory.words space.now.memory) space.now.handles cursor result };
 
     // Where an object of that size lies.
     fn place(cursor: u32, size: u32) -> u32
@@ -41,21 +50,20 @@ pub trait Side {
 }
 
 impl<M: Memory> Space<M> {
-    /// The size of the object that the cursor has come to on its way to the end, if one lies there.
-    pub fn size_at<T: Side>(&self, cursor: u32, end: u32) -> Option<u32>
-        ensures { Came T.Side.upward (M.Memory.words self.now.memory) self.now.handles cursor end result }
+    /// The object that the cursor has come to on its way to the end, if one lies there.
+    pub fn object_at<T: Side>(&self, cursor: u32, end: u32) -> Option<Object>
+        ensures { Met T.Side.upward (M.Memory.words self.now.memory) self.now.handles cursor end result }
     {
         if cursor == end {
             return None;
         }
-        let size = T::size(self, cursor);
-        if size > T::gap(cursor, end) {
+        let object = T::read(self, cursor);
+        if object.size > T::gap(cursor, end) {
             return None;
         }
-        let place = T::place(cursor, size);
-        if place > WORDS || size > WORDS - place {
+        if object.place > WORDS || object.size > WORDS - object.place {
             return None;
         }
-        Some(size)
+        Some(object)
     }
 }

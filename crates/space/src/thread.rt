@@ -48,12 +48,12 @@ impl<M: Memory> Space<M> {
         }
     }
 
-    // Takes the list off the header at the place, and has each of its slots refer to the new place.
-    pub(crate) fn unthread(&mut self, place: u32, new_place: u32)
-        ensures woven { Unthreaded (M.Memory.words self.old.memory) self.old.handles place new_place (M.Memory.words self.new.memory) self.new.handles }
+    // Takes the list off the header at the place, which stands at its end, and has each of its slots refer to the new place.
+    pub(crate) fn unthread(&mut self, place: u32, new_place: u32, header: u32)
+        ensures woven { Heads (M.Memory.words self.old.memory) self.old.handles place header → Unthreaded (M.Memory.words self.old.memory) self.old.handles place new_place (M.Memory.words self.new.memory) self.new.handles }
         ensures kept { KeptIn M.Memory.words self.old self.new }
     {
-        let reference = reference_to(new_place, self.header_of(place));
+        let reference = reference_to(new_place, header);
         let mut word = self.look(place);
         // Turns are counted, since in wild words a list need not end: a `while` would have no measure.
         for turn in 0..ADDRESSES {

@@ -19,9 +19,9 @@ loop-turn-preserved g c =
             λ m P limit so C all e f st.
                 let k = inv.1 m P limit so C all e f st in
                 let e1 = e ∙ sym inv.0.length in
-                let sz = size-read m P limit so up C all k.to _ _ c.args.end f k.cursor c.in-Some.ensures.apart ws hs k.fading.is c.in-Some.size c.in-Some.ensures.sized in
-                let small = place-small m P limit so up C all k.to _ _ c.args.end f k.cursor c.in-Some.ensures.apart c.in-Some.size sz in
-                clear-off m P limit so up C all ws hs e1 _ _ c.args.end f k c.in-Some.ensures.apart c.in-Some.size c.place-place.result _ sz c.place-place.ensures (c.next-cursor.ensures small)
+                let sz = size-read m P limit so up C all k.to _ _ c.args.end f k.cursor c.in-Some.ensures.comes.apart ws hs k.fading.is c.in-Some.object.size c.in-Some.ensures.comes.sized in
+                let small = place-small m P limit so up C all k.to _ _ c.args.end f k.cursor c.in-Some.ensures.comes.apart c.in-Some.object.size sz in
+                clear-off m P limit so up C all ws hs e1 _ _ c.args.end f k c.in-Some.ensures.comes.apart c.in-Some.object.size c.in-Some.object.place _ sz c.in-Some.ensures.read.place (c.next-cursor.ensures small)
                 (ap (λ (x : ℕ). x % 4) (sym c.look-header.ensures) ∙ eqb-true _ 3 (sym c.is_marked.ensures ∙ w.if-is_marked.true)) _ _ c.look-header.result c.look-header.ensures w.store.ensures,
           )
       | else-is_marked w ↦
@@ -30,9 +30,9 @@ loop-turn-preserved g c =
             λ m P limit so C all e f st.
                 let k = inv.1 m P limit so C all e f st in
                 let e1 = e ∙ sym inv.0.length in
-                let sz = size-read m P limit so up C all k.to _ _ c.args.end f k.cursor c.in-Some.ensures.apart ws hs k.fading.is c.in-Some.size c.in-Some.ensures.sized in
-                let small = place-small m P limit so up C all k.to _ _ c.args.end f k.cursor c.in-Some.ensures.apart c.in-Some.size sz in
-                clear-skip m P limit so up C all ws hs e1 _ _ c.args.end f k c.in-Some.ensures.apart c.in-Some.size c.place-place.result _ sz c.place-place.ensures (c.next-cursor.ensures small)
+                let sz = size-read m P limit so up C all k.to _ _ c.args.end f k.cursor c.in-Some.ensures.comes.apart ws hs k.fading.is c.in-Some.object.size c.in-Some.ensures.comes.sized in
+                let small = place-small m P limit so up C all k.to _ _ c.args.end f k.cursor c.in-Some.ensures.comes.apart c.in-Some.object.size sz in
+                clear-skip m P limit so up C all ws hs e1 _ _ c.args.end f k c.in-Some.ensures.comes.apart c.in-Some.object.size c.in-Some.object.place _ sz c.in-Some.ensures.read.place (c.next-cursor.ensures small)
                 (λ z. eqb-false _ 3 (sym c.is_marked.ensures ∙ w.if-is_marked.false) (ap (λ (x : ℕ). x % 4) c.look-header.ensures ∙ z)),
           )
     ]
