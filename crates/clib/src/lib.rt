@@ -77,6 +77,7 @@ pub extern "C" fn fusuma_give(
     number_of(turn(words, state, &mut |kept| kept.give(calls, answers)))
 }
 
+// A function for each step, with words and state apart: so C calls them.
 /// A whole collection of a resting heap.
 #[unsafe(no_mangle)]
 pub extern "C" fn fusuma_collect(words: &mut [u32], state: &mut State) -> i64

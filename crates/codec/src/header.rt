@@ -12,6 +12,7 @@ pub enum Shape {
 }
 
 impl Shape {
+    // By a method, since a `From` would not say that the number is the header's.
     /// The number that a header holds for it.
     pub fn number(self) -> u32
         ensures { result ≡ shape_number self }

@@ -229,6 +229,7 @@ impl Still {
         }
     }
 
+    // Nested, since the borrow checker does not cover where the branches of a chain of `let`s meet.
     fn set_field(&mut self, record: Value, field: u32, new: Field) {
         let Value::Object(object) = record else {
             return;
