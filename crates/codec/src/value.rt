@@ -16,14 +16,14 @@ pub const GREATEST: i32 = 536_870_911;
 pub fn fits(n: i32) -> bool
     ensures { result ≡ in_range n }
 {
-    LEAST <= n && n <= GREATEST
+    (LEAST..=GREATEST).contains(&n)
 }
 
 /// The word of a number.
 pub fn encode(n: i32) -> u32
     ensures { result ≡ number_word n }
 {
-    (i64::from(n) * 4 + 1).rem_euclid(0x1_0000_0000) as u32
+    n.wrapping_mul(4).wrapping_add(1).cast_unsigned()
 }
 
 /// The number that a word holds, the word's tag aside.
@@ -31,11 +31,7 @@ pub fn decode(word: u32) -> i32
     ensures value { result ≡ word_number word }
     ensures exact { (n : ℤ) → in_range n ≡ true → word ≡ number_word n → result ≡ n }
 {
-    if word < 0x8000_0000 {
-        (word / 4) as i32
-    } else {
-        -(((0xffff_ffff - word) / 4) as i32) - 1
-    }
+    word.cast_signed().div_euclid(4)
 }
 
 /// Whether a value word refers to an object.

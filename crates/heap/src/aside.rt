@@ -51,12 +51,10 @@ impl<M: Memory, S: Scheme> Phase<M, S> {
             },
         };
         let live = aside.live;
-        if aside.phase == RESTING {
-            Phase::Resting(heap)
-        } else if aside.phase == BEGUN {
-            Phase::Begun(Begun { heap, live })
-        } else {
-            Phase::Drawn(Drawn { heap, live })
+        match aside.phase {
+            RESTING => Phase::Resting(heap),
+            BEGUN => Phase::Begun(Begun { heap, live }),
+            _ => Phase::Drawn(Drawn { heap, live }),
         }
     }
 

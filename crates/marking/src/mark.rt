@@ -6,7 +6,7 @@ ghost use Rattle.marking.specs.Marks.{MarkedAt, Scanned, Drained, Rescanned, Roo
 
 use crate::Pending;
 use arrayvec::ArrayVec;
-use codec::header::{is_marked, is_unmarked, size_in};
+use codec::header::{is_marked, is_unmarked, marked, size_in};
 use codec::value::{place_of, refers};
 use memory::Memory;
 use scheme::Scheme;
@@ -20,7 +20,7 @@ impl Pending {
     {
         let header = space.look(place);
         if is_unmarked(header) {
-            space.store(place, header + 2);
+            space.store(place, marked(header));
             self.live = self.live.wrapping_add(size_in(header));
             if self.places.try_push(place).is_err() {
                 self.overflow = true;
@@ -94,7 +94,7 @@ impl Pending {
         ensures kept { KeptIn M.Memory.words space.old space.new }
     {
         let table = space.handles;
-        for (h, word) in table.iter().enumerate() {
+        for word in table.iter() {
             if refers(*word) {
                 self.mark_at(space, place_of(*word));
             }

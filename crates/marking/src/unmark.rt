@@ -3,7 +3,7 @@ ghost use Rattle.space.specs.Keeping.{KeptIn};
 ghost use Rattle.marking.specs.Unmarks.{UnmarkedSide};
 ghost use Rattle.marking.specs.Begins.{GivesUp};
 
-use codec::header::is_marked;
+use codec::header::{is_marked, unmarked};
 use memory::Memory;
 use space::{Bounds, Classes, Records, Side, Space, WORDS};
 
@@ -20,7 +20,7 @@ fn unmark_side<T: Side, M: Memory>(space: &mut Space<M>, from: u32, end: u32)
         };
         let header = space.look(object.place);
         if is_marked(header) {
-            space.store(object.place, header - 2);
+            space.store(object.place, unmarked(header));
         }
         cursor = T::next(cursor, object.size);
     }

@@ -2,6 +2,7 @@ use Rattle.std.proofs.Common.{ℕ, ◌%◌, sym, ap, ◌∙◌, inl, inr}
 use Rattle.std.proofs.lemmas.Bool.{eqb-true, eqb-false}
 use Rattle.space.proofs.Wovens.{kept_then}
 use Rattle.marking.proofs.Walks.{walk-stop, size-read, place-small}
+use Rattle.marking.proofs.Steps.{unmarked-word}
 use Rattle.marking.proofs.Fades.{clear-start, clear-off, clear-skip, clear-end}
 use Rattle.marking.proofs.unmark.unmark_side.Goals as goal
 use Rattle.marking.proofs.unmark.unmark_side.Goals.{then-is_marked, else-is_marked}
@@ -17,12 +18,13 @@ loop-turn-preserved g c =
           rw w.space-is (
             kept_then inv.0 w.store.ensures.kept,
             λ m P limit so C all e f st.
+                let bits = eqb-true _ 3 (sym c.is_marked.ensures ∙ w.if-is_marked.true) in
                 let k = inv.1 m P limit so C all e f st in
                 let e1 = e ∙ sym inv.0.length in
                 let sz = size-read m P limit so up C all k.to _ _ c.args.end f k.cursor c.in-Some.ensures.comes.apart ws hs k.fading.is c.in-Some.object.size c.in-Some.ensures.comes.sized in
                 let small = place-small m P limit so up C all k.to _ _ c.args.end f k.cursor c.in-Some.ensures.comes.apart c.in-Some.object.size sz in
                 clear-off m P limit so up C all ws hs e1 _ _ c.args.end f k c.in-Some.ensures.comes.apart c.in-Some.object.size c.in-Some.object.place _ sz c.in-Some.ensures.read.place (c.next-cursor.ensures small)
-                (ap (λ (x : ℕ). x % 4) (sym c.look-header.ensures) ∙ eqb-true _ 3 (sym c.is_marked.ensures ∙ w.if-is_marked.true)) _ _ c.look-header.result c.look-header.ensures w.store.ensures,
+                (ap (λ (x : ℕ). x % 4) (sym c.look-header.ensures) ∙ bits) _ _ c.look-header.result _ c.look-header.ensures (unmarked-word c.look-header.result _ bits w.unmarked.ensures) w.store.ensures,
           )
       | else-is_marked w ↦
           rw w.space-is (
