@@ -56,7 +56,18 @@ pub(crate) fn part_at(part: u32, at: u8) -> Result<(Kind, usize), Refusal>
     }
 }
 
+// A word and its argument's position stay apart: of a field's checks one names the record's position and one the field's.
 impl<M: Memory, S: Scheme> Heap<M, S> {
+    /// Word i of the object that a word refers to.
+    pub(crate) fn word_in(&self, word: u32, i: usize) -> u32
+        requires { i < 4 }
+        ensures { result ≡ slice_index (M.Memory.words self.now.space.memory) (word / 4 + i) }
+    {
+        self.space
+            .memory
+            .read(value::place_of(word) as usize + i)
+    }
+
     /// The kind of the value that a word stands for.
     pub(crate) fn kind_of(&self, word: u32) -> Kind
         ensures { OfValue (S.Scheme.meaning self.now.scheme) (view M.Memory.words self.now) word (λ g v. kind_number result ≡ kind_of g v) }
@@ -88,8 +99,8 @@ impl<M: Memory, S: Scheme> Heap<M, S> {
     pub(crate) fn rule_of(&self, word: u32) -> u32
         ensures { (g : Graph) (s : List Bool) (q : ℕ) → Stands (S.Scheme.meaning self.now.scheme) (view M.Memory.words self.now) g s → slice_index_or s q false ≡ true → object_kind (object_at g q) ≡ 3 → word ≡ reference self.now.bounds.limit g s q → result ≡ figure_of (object_at g (map_of (object_at g q))) }
     {
-        let map = self.space.memory.read(word as usize / 4 + 2);
-        self.space.memory.read(map as usize / 4 + 1)
+        let map = self.word_in(word, 2);
+        self.word_in(map, 1)
     }
 
     /// A field of the record is there, and is raw or not as wanted; then the place of its word.
@@ -103,12 +114,12 @@ impl<M: Memory, S: Scheme> Heap<M, S> {
         ensures place { IfOk result (λ p. p ≡ word / 4 + (2 + field)) }
         ensures sifts { OfValue (S.Scheme.meaning self.now.scheme) (view M.Memory.words self.now) word (λ g v. kind_of g v ≡ 2 → Sifts (has_field g v field at ∷ is_sort g v field raw at ∷ []) (λ p. p ≡ word / 4 + (2 + field)) result) }
     {
-        let place = word as usize / 4;
-        let size = self.space.memory.read(place) / 16;
+        let place = value::place_of(word) as usize;
+        let size = header::size_in(self.space.memory.read(place));
         if field as usize + 2 >= size as usize {
             return Err(Refusal::NoField(at));
         }
-        let rule = self.rule_of(self.space.memory.read(place + 1));
+        let rule = self.rule_of(self.word_in(word, 1));
         if self.scheme.is_raw(rule, field) != raw {
             return Err(Refusal::OtherField(at));
         }
@@ -154,7 +165,7 @@ impl<M: Memory, S: Scheme> Heap<M, S> {
         ensures size { OfValue (S.Scheme.meaning self.now.scheme) (view M.Memory.words self.now) word (λ g v. Sifts (is_kind g v 3 at ∷ []) (λ n. n ≡ 2 + figure_of (object_of g v)) result) }
     {
         self.check_kind(word, Kind::Layout, at)?;
-        Ok(2 + self.space.memory.read(word as usize / 4 + 1).min(32))
+        Ok(2 + self.word_in(word, 1).min(32))
     }
 
     /// The value of a word is an object; then the field count of a record or layout, or the rule of a map.
@@ -165,7 +176,7 @@ impl<M: Memory, S: Scheme> Heap<M, S> {
         match self.kind_of(word) {
             Kind::Empty | Kind::Number => Err(Refusal::OtherKind(at)),
             Kind::Record => Ok(header::size_in(self.space.memory.read(place)).saturating_sub(2)),
-            Kind::Layout | Kind::Map => Ok(self.space.memory.read(place + 1)),
+            Kind::Layout | Kind::Map => Ok(self.word_in(word, 1)),
         }
     }
 }

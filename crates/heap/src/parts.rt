@@ -19,7 +19,7 @@ impl<M: Memory, S: Scheme> Heap<M, S> {
         let (kind, offset) = part_at(part, 3)?;
         let word = self.space.handles[owner as usize];
         self.check_kind(word, kind, 2)?;
-        self.space.handles[target as usize] = self.space.memory.read(word as usize / 4 + offset);
+        self.space.handles[target as usize] = self.word_in(word, offset);
         Ok(())
     }
 
@@ -39,7 +39,7 @@ impl<M: Memory, S: Scheme> Heap<M, S> {
         check_handle(handle, 1)?;
         let word = self.space.handles[handle as usize];
         self.check_kind(word, Kind::Layout, 1)?;
-        let fields = self.space.memory.read(word as usize / 4 + 1);
+        let fields = self.word_in(word, 1);
         let rule = self.rule_of(word);
         Ok(self.scheme.raw_count(rule, fields))
     }

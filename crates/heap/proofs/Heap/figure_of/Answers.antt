@@ -28,8 +28,7 @@ returns-in-Record g c gr s x st is =
 pub returns-in-Layout : goal.returns-in-Layout
 returns-in-Layout g c gr s x st is =
     let k = c.kind_of.ensures gr s x st is in
-    let words = g.M.Memory.words c.args.self.now.space.memory in
-    let read = c.read-in-Layout.ensures ∙ ap (λ p. get_or words (p + 1) 0) c.place_of-place.ensures in
+    let read = c.word_in.ensures in
     elim c.in-Layout.is [
       | inl e ↦ class-sifts _ _ gr s x c.args.word c.args.at 3 _ st is (sym (ap kind_number e) ∙ k) (omega arith) read
       | inr e ↦ class-sifts _ _ gr s x c.args.word c.args.at 4 _ st is (sym (ap kind_number e) ∙ k) (omega arith) read

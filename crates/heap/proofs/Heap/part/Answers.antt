@@ -37,7 +37,7 @@ returns g c =
     let now = c.args.self.now in
     let words = g.M.Memory.words now.space.memory in
     let at = get_or now.space.handles c.args.owner 0 / 4 in
-    let word : c.read.result ≡ get_or words (at + part_offset c.args.part) 0 = c.read.ensures ∙ ap (λ (k : ℕ). get_or words (at + k) 0) c.in_ok-kind.ensures.gives.2 in
+    let word : c.word_in.result ≡ get_or words (at + part_offset c.args.part) 0 = c.word_in.ensures ∙ ap (λ (k : ℕ). get_or words (at + k) 0) c.in_ok-kind.ensures.gives.2 in
     ends _ _ (Part c.args.target c.args.owner c.args.part) _ _ _ refl refl (ap (with_handle (view {S = g.row.S.Denot} g.M.Memory.words now) c.args.target) word) λ gr s st.
     let is = held-means _ _ gr s st c.args.owner c.in_ok-check_handle-2.ensures.gives in
     let p = subst (λ (k : ℕ). Sifts {X = Unit {0}} (is_kind gr (held gr c.args.owner) k 2 ∷ []) (λ _. Unit {0}) (Ok tt)) c.in_ok-kind.ensures.gives.1 (c.in_ok-check_kind.ensures gr s (held gr c.args.owner) st (held-means _ _ gr s st c.args.owner c.in_ok-check_handle-2.ensures.gives)) in

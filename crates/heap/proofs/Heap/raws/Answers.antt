@@ -25,5 +25,5 @@ returns g c =
     let is = held-means _ _ gr s st c.args.handle c.in_ok-check_handle.ensures.gives in
     let p = c.in_ok-check_kind.ensures gr s (held gr c.args.handle) st (held-means _ _ gr s st c.args.handle c.in_ok-check_handle.ensures.gives) in
     let k = eqb-true (kind_of gr (held gr c.args.handle)) 3 (not-false _ (pass-first (all_pass p))) in
-    let e = c.raw_count.ensures ∙ raws-read _ _ gr s st (held gr c.args.handle) _ c.rule_of-rule.result c.read-fields.result is k (λ q here kind w. c.rule_of-rule.ensures gr s q st here kind w) c.read-fields.ensures in
+    let e = c.raw_count.ensures ∙ raws-read _ _ gr s st (held gr c.args.handle) _ c.rule_of-rule.result c.word_in-fields.result is k (λ q here kind w. c.rule_of-rule.ensures gr s q st here kind w) c.word_in-fields.ensures in
     tells-done _ (Raws c.args.handle) _ gr s st (pos c.raw_count.result) (ap (λ (n : ℕ). tells (pos n)) (sym e)) (passed c.in_ok-check_handle.ensures (all_pass p))

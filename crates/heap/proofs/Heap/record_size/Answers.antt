@@ -8,10 +8,10 @@ use Rattle.heap.proofs.Heap.record_size.Goals as goal
 pub returns : goal.returns
 returns g c =
     record {
-      counted = omega (arith, c.read.ensures);
+      counted = omega (arith, c.word_in.ensures);
       size = λ gr s x st is.
           let p = c.in_ok-check_kind.ensures gr s x st is in
           let k = eqb-true (kind_of gr x) 3 (not-false _ (pass-first (all_pass p))) in
           let f = layout-count _ _ gr s st x c.args.word is k in
-          sifts-ok (all_pass p) (omega (arith, f.0, f.1, c.read.ensures));
+          sifts-ok (all_pass p) (omega (arith, f.0, f.1, c.word_in.ensures));
     }
