@@ -2,7 +2,7 @@
 use Rattle.std.proofs.Common.{◌≡◌, ℕ, zero, suc, ◌^◌, ◌<◌, true, List, [], ◌∷◌, ◌++◌, map, ℤ, pos, negsuc, neg_ℤ, Some, None, Ok, Err, Result, decimal, refl, ap, ◌∙◌, arith}
 use lib.Signed.{mag}
 use Rattle.std.specs.Int.{IsInRange}
-use Rattle.std.specs.Fmt.{digits, signed_decimal}
+use Rattle.std.specs.Fmt.{signed_decimal}
 use Rattle.std.specs.List.{AllByRecursion}
 use Rattle.std.specs.Str.{all_ascii_digits}
 use Rattle.std.proofs.lemmas.Fmt.{digits_decimal, digits_value-decimal}
@@ -54,10 +54,9 @@ lacks-state m small (Ok answer) = lacks-cons m 111 (107 ∷ []) (λ e. omega (ar
 lacks-state m small (Err e) = lacks-cons m 110 (111 ∷ []) (λ e. omega (arith, e, small)) (lacks-cons m 111 [] (λ e. omega (arith, e, small)) (λ k h e. omega (arith, h)))
 
 -- an outcome is read as it was, where its number and its position are
-told-back : (l : ℕ) (o : Result ℤ Stop) (i p : List ℕ) → p ≡ decimal (position o) → read_signed i ≡ number o → read_on 0 p ≡ position o → read_as l (state o) i p ≡ Some (record { line = l; outcome = o })
-unfolding digits
-told-back l (Ok answer) i p shown ei ep = rw (shown, ei) refl
-told-back l (Err e) i p shown ei ep = rw (ei, ep) refl
+told-back : (l : ℕ) (o : Result ℤ Stop) (i p : List ℕ) → read_signed i ≡ number o → read_on 0 p ≡ position o → read_as l (state o) i p ≡ Some (record { line = l; outcome = o })
+told-back l (Ok answer) i p ei ep = rw (ei, ep) refl
+told-back l (Err e) i p ei ep = rw (ei, ep) refl
 
 module _ (r : Report) (fits : Fits r) where
   line-fits : r.line < 2 ^ 64
@@ -77,7 +76,7 @@ module _ (r : Report) (fits : Fits r) where
   back =
       ap read_values cut
       ∙ ap (λ l. read_as l (state r.outcome) (signed_decimal (number r.outcome)) (decimal (position r.outcome))) (digits_value-decimal own r.line line-fits)
-      ∙ told-back r.line r.outcome (signed_decimal (number r.outcome)) (decimal (position r.outcome)) refl (signed_back (number r.outcome) fits.number) (digits_value-decimal own (position r.outcome) at-fits)
+      ∙ told-back r.line r.outcome (signed_decimal (number r.outcome)) (decimal (position r.outcome)) (signed_back (number r.outcome) fits.number) (digits_value-decimal own (position r.outcome) at-fits)
 
   space : (xs : List ℕ) → Lacks 10 xs → Lacks 10 (32 ∷ xs)
   space xs h = lacks-cons 10 32 xs (λ e. omega (arith, e)) h

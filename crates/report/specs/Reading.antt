@@ -16,7 +16,7 @@ read_signed (x ∷ xs) = cond (x == 45) (neg_ℤ (pos (read_on 0 xs))) (pos (rea
 -- what a state, a number and a position tell, of line n
 abbrev pub read_as : (n : ℕ) (state number position : List ℕ) → Option Report
 read_as n s i p =
-    cond (bytes_eq s (codes "ok") && bytes_eq p (codes "0")) (Some (record { line = n; outcome = Ok (read_signed i) })) (cond (bytes_eq s (codes "no")) (Some (record { line = n; outcome = Err (record { number = read_signed i; at = read_on 0 p }) })) None)
+    cond (bytes_eq s (codes "ok") && read_on 0 p == 0) (Some (record { line = n; outcome = Ok (read_signed i) })) (cond (bytes_eq s (codes "no")) (Some (record { line = n; outcome = Err (record { number = read_signed i; at = read_on 0 p }) })) None)
 
 abbrev pub read_values : List (List ℕ) → Option Report
 read_values [] = None

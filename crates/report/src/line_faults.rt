@@ -15,6 +15,7 @@ pub enum CallFault {
 }
 
 impl CallFault {
+    // By methods: a fault has two numbers, and each layer below names its own.
     /// The number by which the fault is known outside.
     pub fn number(self) -> u8
         ensures { result ≡ fault_number self }

@@ -10,6 +10,7 @@ use std::fmt;
 /// What stopped a line: the number of the fault, and the position of the value that did not do, 0 if there is none.
 #[derive(Clone, Copy, PartialEq, Eq, Debug)]
 pub struct Stop {
+    // Numbers as printed: any that a line can show is held, and read back.
     pub number: i64,
     pub at: u8,
 }
