@@ -33,6 +33,7 @@ mod tests {
         assert_eq!(rt; none.read(0), 0);
     }
 
+    // A test for each memory: what they share is `two_words`.
     #[test]
     fn bytes(rt: HostRuntime) {
         let mut bytes = [9u8; 11];

@@ -14,6 +14,7 @@ const BEGUN: u32 = 1;
 
 const DRAWN: u32 = 2;
 
+// Each end for itself and not as `Bounds`, so that the layout that C sees stands here whole.
 /// All that a heap is beside its memory and its scheme, with its phase. Only a heap that is put aside makes one.
 #[repr(C)]
 #[derive(Clone, Copy)]

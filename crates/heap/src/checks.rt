@@ -63,9 +63,7 @@ impl<M: Memory, S: Scheme> Heap<M, S> {
         requires { i < 4 }
         ensures { result ≡ slice_index (M.Memory.words self.now.space.memory) (word / 4 + i) }
     {
-        self.space
-            .memory
-            .read(value::place_of(word) as usize + i)
+        self.space.memory.read(value::place_of(word) as usize + i)
     }
 
     /// The kind of the value that a word stands for.
@@ -95,7 +93,7 @@ impl<M: Memory, S: Scheme> Heap<M, S> {
     }
 
     /// The rule of the map of a layout, from the layout's reference.
-    // The space has its own, from a record's place, which asks of each address whether it is a handle's: here none is.
+    // Two look-ups, as in the space, which goes from a record's place: a function for both would be no plainer.
     pub(crate) fn rule_of(&self, word: u32) -> u32
         ensures { (g : Graph) (s : List Bool) (q : ℕ) → Stands (S.Scheme.meaning self.now.scheme) (view M.Memory.words self.now) g s → slice_index_or s q false ≡ true → object_kind (object_at g q) ≡ 3 → word ≡ reference self.now.bounds.limit g s q → result ≡ figure_of (object_at g (map_of (object_at g q))) }
     {
@@ -103,6 +101,7 @@ impl<M: Memory, S: Scheme> Heap<M, S> {
         self.word_in(map, 1)
     }
 
+    // Raw or not is a yes or no of the field, as the scheme answers it.
     /// A field of the record is there, and is raw or not as wanted; then the place of its word.
     pub(crate) fn field_of(
         &self,

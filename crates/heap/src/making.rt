@@ -53,6 +53,7 @@ impl<M: Memory, S: Scheme> Heap<M, S> {
         ensures bounds { self.new.bounds ≡ self.old.bounds }
         ensures scheme { self.new.scheme ≡ self.old.scheme }
     {
+        // By place: a memory has no slice to copy to.
         for (i, word) in words.iter().enumerate() {
             self.space.memory.write(place as usize + i, *word);
         }
@@ -122,6 +123,7 @@ impl<M: Memory, S: Scheme> Heap<M, S> {
         check_handle(layout, 2)?;
         let size = self.record_size(self.space.handles[layout as usize], 2)?;
         self.make_room(size)?;
+        // An array and a size: the fields are zeros, and no length grows.
         let mut words = [0; MOST_WORDS];
         words[0] = header_of(Shape::Record, size);
         words[1] = self.space.handles[layout as usize];

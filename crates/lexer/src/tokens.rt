@@ -70,6 +70,7 @@ impl<'a> Lexer<'a> {
         Ok(token_of(value))
     }
 
+    // Two arms: a test and an `if` would be no plainer.
     /// No value may be left.
     #[tactic(auto, using(crate::proofs::Lexemes::some_left))]
     pub fn end(self) -> Result<(), TextFault>

@@ -13,7 +13,7 @@ use numbers::{plain_of, signed_of, unused_of};
 use words::{Word, word_of};
 
 /// The values under the names a to d.
-// Fields and no array: the rules know each column by its name.
+// Fields and no array: `under` reads one by its column, and the call `num` names two of them.
 #[derive(Clone, Copy, Debug)]
 pub struct Arguments<'a> {
     pub a: Token<'a>,

@@ -8,7 +8,7 @@ use faults::TextFault;
 use lexer::tokens::{Token, Tokens, tokens_of};
 
 /// The place of each name, from 0.
-// Fields and no array: the rules know each column by its name.
+// Fields and no array: the laws of the name line say each column by its name.
 #[derive(Clone, Copy, PartialEq, Eq, Debug)]
 pub struct Columns {
     pub call: usize,

@@ -75,7 +75,7 @@ impl Pending {
         ensures kept { KeptIn M.Memory.words space.old space.new }
     {
         let mut cursor = from;
-        // Turns are counted, since in wild words a size may be 0: a `while let` would have no measure.
+        // Turns are counted, since in wild words a size may be 0. Four walks go so: a cursor that counts would be a type more and a line less in each.
         for turn in 0..WORDS {
             let Some(object) = space.object_at::<T>(cursor, end) else {
                 break;
@@ -88,7 +88,7 @@ impl Pending {
         }
     }
 
-    // Marks what the handles name. Drawing goes over them too: the loop is all that the two share, and a closure for its step would have to lend it the space.
+    // Marks what the handles name. Drawing goes over them in a loop of its own: a closure for the step would be no plainer than the loop.
     fn mark_handles<M: Memory>(&mut self, space: &mut Space<M>)
         ensures rooted { Rooted (M.Memory.words space.old.memory) space.old.handles self.old (M.Memory.words space.new.memory) space.new.handles self.new }
         ensures kept { KeptIn M.Memory.words space.old space.new }

@@ -13,7 +13,7 @@ fn unmark_side<T: Side, M: Memory>(space: &mut Space<M>, from: u32, end: u32)
     ensures kept { KeptIn M.Memory.words space.old space.new }
 {
     let mut cursor = from;
-    // Turns are counted, since in wild words a size may be 0: a `while let` would have no measure.
+    // Turns are counted, since in wild words a size may be 0. Four walks go so: a cursor that counts would be a type more and a line less in each.
     for turn in 0..WORDS {
         let Some(object) = space.object_at::<T>(cursor, end) else {
             break;

@@ -49,6 +49,7 @@ pub enum Object {
 }
 
 impl Object {
+    // By a method, which is passed by its name: a `From` would hold the same match.
     pub fn kind(&self) -> Kind {
         match self {
             Object::Record(_) => Kind::Record,

@@ -62,6 +62,7 @@ pub fn signed_of(token: Token<'_>, column: Argument) -> Result<i32, TextFault>
     number.ok_or(TextFault::NoValue(column))
 }
 
+// Two arms: a comparison and an `if` would be no plainer.
 /// An argument that the call does not use is a dash.
 pub fn unused_of(token: Token<'_>, column: Argument) -> Result<(), TextFault>
     ensures { result ≡ ok_or (unused (said token.entry)) (NoValue column) }

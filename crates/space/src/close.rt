@@ -29,7 +29,7 @@ impl<M: Memory> Space<M> {
     {
         let mut cursor = from;
         let mut to = from;
-        // Turns are counted, since in wild words a size may be 0: a `while let` would have no measure.
+        // Turns are counted, since in wild words a size may be 0. Four walks go so: a cursor that counts would be a type more and a line less in each.
         for turn in 0..WORDS {
             let Some(object) = self.object_at::<T>(cursor, end) else {
                 break;

@@ -27,7 +27,7 @@ impl<M: Memory> Space<M> {
         }
     }
 
-    // Threads each reference of the handle table.
+    // Threads each reference of the handle table, by its address: the words go with their index. Marking goes over the table in a loop of its own.
     fn thread_handles(&mut self)
         ensures threaded { ThreadedHandles (M.Memory.words self.old.memory) self.old.handles (M.Memory.words self.new.memory) self.new.handles }
         ensures kept { KeptIn M.Memory.words self.old self.new }
@@ -58,7 +58,7 @@ impl<M: Memory> Space<M> {
     {
         let mut cursor = from;
         let mut to = from;
-        // Turns are counted, since in wild words a size may be 0: a `while let` would have no measure.
+        // Turns are counted, since in wild words a size may be 0. Four walks go so: a cursor that counts would be a type more and a line less in each.
         for turn in 0..WORDS {
             let Some(object) = self.object_at::<T>(cursor, end) else {
                 break;

@@ -40,6 +40,7 @@ fn changed<F: Fn(u32) -> u32>(before: &[u32], now: F, but: Range<u32>) -> usize
         .count()
 }
 
+// Bits by number: the trials share nothing with the heap's own reading of words.
 /// Where the records end: each header tells the size, and a class or a free word ends the walk.
 fn records_end(words: &[u32]) -> usize {
     let mut end = 0;

@@ -50,7 +50,7 @@ impl Wild {
         x ^= x >> 7;
         x ^= x << 17;
         self.state = x;
-        // the upper half is mixed better than the lower
+        // The upper half is mixed better than the lower. Without the mask, tried, the proof that the cast fits did not close.
         (x >> 32 & 0xffff_ffff) as u32
     }
 
