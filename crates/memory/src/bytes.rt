@@ -13,6 +13,7 @@ impl Memory for &mut [u8] {
     }
 
     fn read(&self, place: usize) -> u32 {
+        // By a match: behind `map_or` the proof was left open.
         match self.as_chunks::<4>().0.get(place) {
             Some(bytes) => u32::from_be_bytes(*bytes),
             None => 0,

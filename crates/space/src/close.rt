@@ -18,6 +18,7 @@ impl<M: Memory> Space<M> {
     {
         self.unthread(object.place, new_place, object.header);
         self.slide::<T>(object.place, new_place, object.size);
+        // Two less, down to 0: in wild words there need be no mark, and codec's `unmarked` would then leave the word.
         let header = self.look(new_place);
         self.store(new_place, header.saturating_sub(2));
     }
