@@ -80,7 +80,7 @@ impl Pending {
             let Some(object) = space.object_at::<T>(cursor, end) else {
                 break;
             };
-            if is_marked(space.look(object.place)) {
+            if is_marked(object.header) {
                 self.scan(space, scheme, object.place);
                 self.drain(space, scheme);
             }

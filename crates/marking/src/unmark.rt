@@ -18,9 +18,8 @@ fn unmark_side<T: Side, M: Memory>(space: &mut Space<M>, from: u32, end: u32)
         let Some(object) = space.object_at::<T>(cursor, end) else {
             break;
         };
-        let header = space.look(object.place);
-        if is_marked(header) {
-            space.store(object.place, unmarked(header));
+        if is_marked(object.header) {
+            space.store(object.place, unmarked(object.header));
         }
         cursor = T::next(cursor, object.size);
     }

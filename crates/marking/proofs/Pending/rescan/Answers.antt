@@ -21,7 +21,7 @@ loop-turn-preserved g c =
                 let sz = size-read _ P limit so up C all k.to _ _ c.args.end f k.cursor c.in-Some.ensures.comes.apart ws hs k.going.is c.in-Some.object.size c.in-Some.ensures.comes.sized in
                 let small = place-small _ P limit so up C all k.to _ _ c.args.end f k.cursor c.in-Some.ensures.comes.apart c.in-Some.object.size sz in
                 walk-scan _ P limit so up C all roots rounds ws hs e1 _ _ c.args.end f _ k c.in-Some.ensures.comes.apart c.in-Some.object.size c.in-Some.object.place _ sz c.in-Some.ensures.read.place (c.next-cursor.ensures small)
-                (ap (λ (x : ℕ). x % 4) (sym c.look.ensures) ∙ eqb-true _ 3 (sym c.is_marked.ensures ∙ w.if-is_marked.true)) _ _ _ _ _ _ w.scan.ensures.kept w.scan.ensures.scanned w.drain.ensures.drained,
+                c.in-Some.object.header c.in-Some.ensures.read.header.plain (eqb-true _ 3 (sym c.is_marked.ensures ∙ w.if-is_marked.true)) _ _ _ _ _ _ w.scan.ensures.kept w.scan.ensures.scanned w.drain.ensures.drained,
           )
       | else-is_marked w ↦
           rw (w.self-is, w.space-is) (
@@ -32,7 +32,7 @@ loop-turn-preserved g c =
                 let sz = size-read _ P limit so up C all k.to _ _ c.args.end f k.cursor c.in-Some.ensures.comes.apart ws hs k.going.is c.in-Some.object.size c.in-Some.ensures.comes.sized in
                 let small = place-small _ P limit so up C all k.to _ _ c.args.end f k.cursor c.in-Some.ensures.comes.apart c.in-Some.object.size sz in
                 walk-skip _ P limit so up C all roots rounds ws hs e1 _ _ c.args.end f _ k c.in-Some.ensures.comes.apart c.in-Some.object.size c.in-Some.object.place _ sz c.in-Some.ensures.read.place (c.next-cursor.ensures small)
-                (λ z. eqb-false _ 3 (sym c.is_marked.ensures ∙ w.if-is_marked.false) (ap (λ (x : ℕ). x % 4) c.look.ensures ∙ z)),
+                c.in-Some.object.header c.in-Some.ensures.read.header.plain (eqb-false _ 3 (sym c.is_marked.ensures ∙ w.if-is_marked.false)),
           )
     ]
 

@@ -24,7 +24,7 @@ loop-turn-preserved g c =
                 let sz = size-read m P limit so up C all k.to _ _ c.args.end f k.cursor c.in-Some.ensures.comes.apart ws hs k.fading.is c.in-Some.object.size c.in-Some.ensures.comes.sized in
                 let small = place-small m P limit so up C all k.to _ _ c.args.end f k.cursor c.in-Some.ensures.comes.apart c.in-Some.object.size sz in
                 clear-off m P limit so up C all ws hs e1 _ _ c.args.end f k c.in-Some.ensures.comes.apart c.in-Some.object.size c.in-Some.object.place _ sz c.in-Some.ensures.read.place (c.next-cursor.ensures small)
-                (ap (λ (x : ℕ). x % 4) (sym c.look-header.ensures) ∙ bits) _ _ c.look-header.result _ c.look-header.ensures (unmarked-word c.look-header.result _ bits w.unmarked.ensures) w.store.ensures,
+                _ _ c.in-Some.object.header _ c.in-Some.ensures.read.header.plain bits (unmarked-word c.in-Some.object.header _ bits w.unmarked.ensures) w.store.ensures,
           )
       | else-is_marked w ↦
           rw w.space-is (
@@ -35,7 +35,7 @@ loop-turn-preserved g c =
                 let sz = size-read m P limit so up C all k.to _ _ c.args.end f k.cursor c.in-Some.ensures.comes.apart ws hs k.fading.is c.in-Some.object.size c.in-Some.ensures.comes.sized in
                 let small = place-small m P limit so up C all k.to _ _ c.args.end f k.cursor c.in-Some.ensures.comes.apart c.in-Some.object.size sz in
                 clear-skip m P limit so up C all ws hs e1 _ _ c.args.end f k c.in-Some.ensures.comes.apart c.in-Some.object.size c.in-Some.object.place _ sz c.in-Some.ensures.read.place (c.next-cursor.ensures small)
-                (λ z. eqb-false _ 3 (sym c.is_marked.ensures ∙ w.if-is_marked.false) (ap (λ (x : ℕ). x % 4) c.look-header.ensures ∙ z)),
+                c.in-Some.object.header c.in-Some.ensures.read.header.plain (eqb-false _ 3 (sym c.is_marked.ensures ∙ w.if-is_marked.false)),
           )
     ]
 
