@@ -8,12 +8,15 @@ use crate::{Side, Space};
 use memory::Memory;
 
 impl<M: Memory> Space<M> {
-    // Moves the words of an object.
+    // Moves the words of an object, if it is to lie elsewhere.
     pub(crate) fn slide<T: Side>(&mut self, from: u32, to: u32, size: u32)
         requires { (from + size ≤ 16384) × (to + size ≤ 16384) }
         ensures moved { Moved T.Side.upward (M.Memory.words self.old.memory) self.old.handles from to size (M.Memory.words self.new.memory) self.new.handles }
         ensures kept { KeptIn M.Memory.words self.old self.new }
     {
+        if from == to {
+            return;
+        }
         // By number: a memory has words by place alone, and no slice to copy within.
         for i in 0..size {
             let at = T::order(size, i);
