@@ -21,8 +21,11 @@ impl<M: Memory> Space<M> {
     {
         // By number: each word is looked up in a space that its threading alters.
         for i in 1..size {
-            if slots.is_value(scheme, i) && refers(self.look(place + i)) {
-                self.thread(place + i);
+            if slots.is_value(scheme, i) {
+                let word = self.look(place + i);
+                if refers(word) {
+                    self.thread(place + i, word);
+                }
             }
         }
     }
@@ -35,7 +38,7 @@ impl<M: Memory> Space<M> {
         let table = self.handles;
         for (h, word) in table.iter().enumerate() {
             if refers(*word) {
-                self.thread(WORDS + h as u32);
+                self.thread(WORDS + h as u32, *word);
             }
         }
     }

@@ -1,6 +1,6 @@
 // Threading: the slots that refer to an object form a list that begins at its header's place and ends with the header.
 ghost use Rattle.std.specs.Prelude.{◌≡◌, ◌<◌};
-ghost use Rattle.space.specs.Weave.{reference, Heads, Threaded, Unthreaded};
+ghost use Rattle.space.specs.Weave.{view, reference, Heads, Threaded, Unthreaded};
 ghost use Rattle.space.specs.Keeping.{KeptIn};
 
 use crate::{ADDRESSES, Space};
@@ -35,13 +35,13 @@ impl<M: Memory> Space<M> {
         word
     }
 
-    // Threads the reference in the slot.
-    pub(crate) fn thread(&mut self, slot: u32)
-        ensures woven { Threaded (M.Memory.words self.old.memory) self.old.handles slot (M.Memory.words self.new.memory) self.new.handles }
+    // Threads the reference in the slot, which is that word.
+    pub(crate) fn thread(&mut self, slot: u32, word: u32)
+        ensures woven { word ≡ view (M.Memory.words self.old.memory) self.old.handles slot → Threaded (M.Memory.words self.old.memory) self.old.handles slot (M.Memory.words self.new.memory) self.new.handles }
         ensures kept { KeptIn M.Memory.words self.old self.new }
     {
         if slot < ADDRESSES {
-            let place = place_of(self.look(slot));
+            let place = place_of(word);
             let header = self.look(place);
             self.store(slot, header);
             self.store(place, link_to(slot));
