@@ -22,7 +22,7 @@ impl<M: Memory> Space<M> {
         // By number: each word is looked up in a space that its threading alters.
         for i in 1..size {
             if slots.is_value(scheme, i) {
-                let word = self.look(place + i);
+                let word = self.memory.read((place + i) as usize);
                 if refers(word) {
                     self.thread(place + i, word);
                 }

@@ -21,8 +21,8 @@ impl<M: Memory> Space<M> {
         for i in 0..size {
             let at = T::order(size, i);
             if at < size {
-                let word = self.look(from + at);
-                self.store(to + at, word);
+                let word = self.memory.read((from + at) as usize);
+                self.memory.write((to + at) as usize, word);
             }
         }
     }
