@@ -11,7 +11,7 @@ use faults::TextFault;
 #[derive(Clone, Copy, PartialEq, Eq, Debug)]
 pub enum Token<'a> {
     Word(&'a [u8]),
-    /// Its digits are not looked at yet: a column may refuse them.
+    /// Its digits are not looked at yet: a column may refuse them. A minus is a part of the number, and says nothing of them.
     Number { minus: bool, digits: &'a [u8] },
     Dash,
 }

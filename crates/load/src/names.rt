@@ -52,8 +52,6 @@ pub fn columns_of(line: &[u8]) -> Result<Columns, TextFault>
     ensures value { result ≡ columns_in line.now }
     ensures named { MatchResult result (λ c. Named c line.now) (λ f. (f ≡ NoNames) × ((c : Columns) → Named c line.now → ⊥)) }
 {
-    let Ok(tokens) = tokens_of(line) else {
-        return Err(TextFault::NoNames);
-    };
+    let tokens = tokens_of(line).map_err(|_| TextFault::NoNames)?;
     places_of(tokens)
 }

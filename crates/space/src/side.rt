@@ -8,6 +8,7 @@ use crate::{Bounds, Space, WORDS};
 use memory::Memory;
 
 /// An object as a walk meets it: where it lies, how many words it takes, and the header at the end of its list.
+// That it lies within the words is no fact of the type: `read` gives an object before that is tested.
 #[derive(Clone, Copy)]
 pub struct Object {
     pub place: u32,
