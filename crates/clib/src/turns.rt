@@ -66,7 +66,7 @@ impl<M: Memory, S: Scheme> Kept<M, S> {
         Phase::resume(self.memory, self.scheme, &self.aside)
     }
 
-    // One each for the three phases, as each holds a type of its own: a closure that picks the phase would be this `match` again.
+    // One each for the three phases, as each holds a type of its own: a closure that picks the phase, or gives the heap back, would be this `match` again.
     /// The heap, if it rests.
     fn resting(self) -> Result<Heap<M, S>, OutOfTurn<M, S>>
         ensures { MatchResult result (λ heap. Resumes self.memory self.scheme self.aside (Phase.Resting heap)) (λ out. (self.aside.phase ≢ 0) × (out.0 ≡ self)) }

@@ -56,7 +56,7 @@ pub(crate) fn part_at(part: u32, at: u8) -> Result<(Kind, usize), Refusal>
     }
 }
 
-// A word and its argument's position stay apart: of a field's checks one names the record's position and one the field's.
+// A word and its argument's position stay apart: a struct of both would be made and taken apart again in each call, and be no plainer.
 impl<M: Memory, S: Scheme> Heap<M, S> {
     /// Word i of the object that a word refers to.
     pub(crate) fn word_in(&self, word: u32, i: usize) -> u32
@@ -70,6 +70,7 @@ impl<M: Memory, S: Scheme> Heap<M, S> {
     pub(crate) fn kind_of(&self, word: u32) -> Kind
         ensures { OfValue (S.Scheme.meaning self.now.scheme) (view M.Memory.words self.now) word (λ g v. kind_number result ≡ kind_of g v) }
     {
+        // By the tag's number: an enum of the four tags would be `Kind` again, but for the class.
         match word % 4 {
             0 => Kind::Empty,
             1 => Kind::Number,

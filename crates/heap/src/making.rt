@@ -53,7 +53,7 @@ impl<M: Memory, S: Scheme> Heap<M, S> {
         ensures bounds { self.new.bounds ≡ self.old.bounds }
         ensures scheme { self.new.scheme ≡ self.old.scheme }
     {
-        // By place: a memory has no slice to copy to.
+        // By index: a memory has no slice to copy to, and an open range of places beside the words would be no plainer.
         for (i, word) in words.iter().enumerate() {
             self.space.memory.write(place as usize + i, *word);
         }

@@ -122,7 +122,7 @@ mod tests {
         Ok(())
     }
 
-    // An input with the line and the number of what stops it; 0 and 0 where its lines are read, as such a table reads best.
+    // An input with the line and the number of what stops it; 0 and 0 where its lines are read, as in the output: tests keep their values.
     #[test]
     fn name_lines(rt: HostRuntime) {
         let cases: [(&[u8], u32, u8); 14] = [

@@ -30,7 +30,7 @@ impl<M: Memory> Space<M> {
         }
     }
 
-    // Threads each reference of the handle table, by its address: the words go with their index. Marking goes over the table in a loop of its own.
+    // Threads each reference of the handle table, by its address: the words go with their index. Marking has a loop of its own: a closure for the step would be no plainer.
     fn thread_handles(&mut self)
         ensures threaded { ThreadedHandles (M.Memory.words self.old.memory) self.old.handles (M.Memory.words self.new.memory) self.new.handles }
         ensures kept { KeptIn M.Memory.words self.old self.new }

@@ -81,7 +81,7 @@ mod tests {
             && space.look(WORDS + 31) == 22
     }
 
-    // By number, here and below: the places are computed from it.
+    // By number, here and below: the number is the place, or the place is computed from it.
     fn clear<M: Memory>(space: &mut Space<M>, limit: u32) {
         for place in 0..limit {
             space.store(place, 0);

@@ -117,6 +117,7 @@ impl Picture {
         still: &Still,
         target: u32,
     ) -> Result<bool, AllocError> {
+        // By number, as where the records end.
         let place = heap.handle_word(target) / 4;
         let size = heap.word(place) / 16;
         let object = place..place.saturating_add(size);
