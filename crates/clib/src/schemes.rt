@@ -49,4 +49,11 @@ impl Scheme for AnyScheme {
             AnyScheme::Mask => Mask.raw_count(rule, n),
         }
     }
+
+    fn raw_fields(&self, rule: u32) -> u32 {
+        match self {
+            AnyScheme::Prefix => Prefix.raw_fields(rule),
+            AnyScheme::Mask => Mask.raw_fields(rule),
+        }
+    }
 }

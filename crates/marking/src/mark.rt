@@ -37,10 +37,10 @@ impl Pending {
             return;
         }
         let header = space.look(place);
-        let slots = space.slots_of(place, header);
+        let slots = space.slots_of(scheme, place, header);
         // By number: each word is looked up in a space that marking alters.
         for i in 1..size_in(header) {
-            if slots.is_value(scheme, i) {
+            if slots.is_value(i) {
                 let word = space.look(place + i);
                 if refers(word) {
                     self.mark_at(space, place_of(word));

@@ -14,14 +14,14 @@ use scheme::Scheme;
 
 impl<M: Memory> Space<M> {
     // Threads each reference of the object at the place, lowest first.
-    fn thread_words<S: Scheme>(&mut self, scheme: &S, place: u32, size: u32, slots: Slots)
+    fn thread_words(&mut self, place: u32, size: u32, slots: Slots)
         requires { place + size ≤ 16384 }
-        ensures threaded { ThreadedWords (values_of (S.Scheme.meaning scheme.now) slots) (M.Memory.words self.old.memory) self.old.handles place size (M.Memory.words self.new.memory) self.new.handles }
+        ensures threaded { ThreadedWords (values_of slots) (M.Memory.words self.old.memory) self.old.handles place size (M.Memory.words self.new.memory) self.new.handles }
         ensures kept { KeptIn M.Memory.words self.old self.new }
     {
         // By number: each word is looked up in a space that its threading alters.
         for i in 1..size {
-            if slots.is_value(scheme, i) {
+            if slots.is_value(i) {
                 let word = self.memory.read((place + i) as usize);
                 if refers(word) {
                     self.thread(place + i, word);
@@ -50,8 +50,8 @@ impl<M: Memory> Space<M> {
         ensures kept { KeptIn M.Memory.words self.old self.new }
     {
         self.unthread(object.place, new_place, object.header);
-        let slots = self.slots_of(object.place, object.header);
-        self.thread_words(scheme, object.place, object.size, slots);
+        let slots = self.slots_of(scheme, object.place, object.header);
+        self.thread_words(object.place, object.size, slots);
     }
 
     // Goes over a side.

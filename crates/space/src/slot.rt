@@ -1,5 +1,6 @@
 // Which words of an object hold values, and so may refer to another object.
-ghost use Rattle.std.specs.Prelude.{◌≡◌, ◌<◌};
+ghost use Rattle.std.specs.Prelude.{◌≡◌, ℕ, ◌<◌};
+ghost use Rattle.graph.specs.Places.{value_at};
 ghost use Rattle.space.specs.Weave.{view};
 ghost use Rattle.space.specs.Pass.{rule_at};
 ghost use Rattle.space.specs.Slots.{values_of, Reads};
@@ -10,24 +11,31 @@ use codec::value::place_of;
 use memory::Memory;
 use scheme::Scheme;
 
-/// How the words of an object are read: those of a record by its rule.
+/// Which words of an object hold values: bit i says it of word i, and bit 63 of all words past it too, which no object has.
 #[derive(Clone, Copy, PartialEq, Eq, Debug)]
-pub enum Slots {
-    Record { rule: u32 },
-    Layout,
-    Map,
+pub struct Slots {
+    values: u64,
 }
 
+// Of a layout its map, of a map its name and its parent.
+const LAYOUT_SLOTS: Slots = Slots { values: 0b100 };
+
+const MAP_SLOTS: Slots = Slots { values: 0b1100 };
+
 impl Slots {
-    /// Whether word i of the object holds a value.
-    pub fn is_value<S: Scheme>(self, scheme: &S, i: u32) -> bool
-        ensures { result ≡ values_of (S.Scheme.meaning scheme.now) self i }
+    // Of a record all but its header and its raw fields.
+    fn of_record<S: Scheme>(scheme: &S, rule: u32) -> Slots
+        ensures { (i : ℕ) → values_of result i ≡ value_at (S.Scheme.meaning scheme.now) 0 rule i }
     {
-        match self {
-            Slots::Record { rule } => i == 1 || (i >= 2 && !scheme.is_raw(rule, i - 2)),
-            Slots::Layout => i == 2,
-            Slots::Map => i == 2 || i == 3,
-        }
+        let others = u64::from(scheme.raw_fields(rule)) * 4 + 1;
+        Slots { values: !others }
+    }
+
+    /// Whether word i of the object holds a value.
+    pub fn is_value(self, i: u32) -> bool
+        ensures { result ≡ values_of self i }
+    {
+        (self.values >> i.min(63)) & 1 == 1
     }
 }
 
@@ -44,16 +52,16 @@ impl<M: Memory> Space<M> {
         self.look(place_of(map) + 1)
     }
 
-    /// How the words of the object at the place are read, which has that header. Bits that are no kind's are read as a map's.
-    pub fn slots_of(&self, place: u32, header: u32) -> Slots
-        ensures { Reads (view (M.Memory.words self.now.memory) self.now.handles) place header result }
+    /// Which words of the object at the place hold values; it has that header. Bits that are no kind's are read as a map's.
+    pub fn slots_of<S: Scheme>(&self, scheme: &S, place: u32, header: u32) -> Slots
+        ensures { Reads (S.Scheme.meaning scheme.now) (view (M.Memory.words self.now.memory) self.now.handles) place header result }
     {
         match shape_in(header) {
-            Some(Shape::Record) => Slots::Record {
-                rule: self.rule_of(place),
-            },
-            Some(Shape::Layout) => Slots::Layout,
-            Some(Shape::Map) | None => Slots::Map,
+            Some(Shape::Record) => Slots::of_record(scheme, self.rule_of(place)),
+            Some(Shape::Layout) => LAYOUT_SLOTS,
+            // Not in one arm with None: of such an arm the proof knows less.
+            Some(Shape::Map) => MAP_SLOTS,
+            None => MAP_SLOTS,
         }
     }
 }
