@@ -4,7 +4,7 @@ use Rattle.std.proofs.lemmas.Bool.{both_ways, false≢true, cases_Bool, and_part
 use Rattle.std.proofs.lemmas.List.{get_or-map}
 use Rattle.std.proofs.lemmas.Bool.Decides.{nat_tests}
 use Rattle.scheme.specs.Meaning.{Meaning}
-use Rattle.graph.specs.Graph.{Value, empty, number, object, Object, a_record, a_layout, a_map, Graph, held, object_at, size, is_record}
+use Rattle.graph.specs.Graph.{Value, empty, number, object, Cell, Object, a_record, a_layout, a_map, Graph, held, object_at, size, is_record}
 use Rattle.graph.specs.Reach.{Names, its_layout, its_map, words_of}
 use Rattle.graph.specs.Step.{object_kind, figure_of}
 use Rattle.graph.specs.Words.{place_of, record_stands, reference, header, header_kind, value_word, object_words, words_at, handle_words}
@@ -36,6 +36,12 @@ pub kind-four : (o : Object) → header_kind o < 4
 kind-four (a_record l cells) = omega arith
 kind-four (a_layout c n) = omega arith
 kind-four (a_map r n p) = omega arith
+
+-- the side that its kind is on
+pub kind-side : (o : Object) → eqb (header_kind o) 0 ≡ is_record o
+kind-side (a_record l cells) = refl
+kind-side (a_layout c n) = refl
+kind-side (a_map r n p) = refl
 
 kind-record : (o : Object) → header_kind o ≡ 0 → is_record o ≡ true
 kind-record (a_record l cells) e = refl
@@ -276,7 +282,7 @@ module _ (m : Meaning) (W : ℕ) (g : Graph) (s k : List Bool) (kp : Keeps m W g
 
   -- a standing object in the plan
 
-  kind-is : (q : ℕ) → get_or s q false ≡ true → (plan W g s k rest).words (place_of W g s q) / 4 % 4 ≡ header_kind (object_at g q)
+  pub kind-is : (q : ℕ) → get_or s q false ≡ true → (plan W g s k rest).words (place_of W g s q) / 4 % 4 ≡ header_kind (object_at g q)
   kind-is q e = ap (λ (w : ℕ). w / 4 % 4) (head-word q e) ∙ (headers-read (get_or k q false) (header_kind (object_at g q)) (size (object_at g q)) (kind-four (object_at g q))).kinds
 
   class-later : (q t i : ℕ) → get_or s q false ≡ true → is_record (object_at g q) ≡ true → is_record (object_at g t) ≡ false → turn_of W g s q ≡ i + 1 → i < turn_of W g s t
@@ -355,6 +361,7 @@ module _ (m : Meaning) (W : ℕ) (g : Graph) (s k : List Bool) (kp : Keeps m W g
                     own = record { body = body_at q 1 e (omega arith) (size-two (object_at g q)); turn = rw (rank-at q 1 e (size-two (object_at g q))) (omega (arith, z)) };
                     layout = rw word1 (quiet q l 2 i e r dl cl (omega arith) two z);
                     map = rw word2 (quiet q n 1 i e r dn (ap is_record fm) (omega arith) one z);
+                    low = (omega (arith, word1, ends l dl, two, kp.limit), omega (arith, word2, ends n dn, one, kp.limit));
                     is =
                         ap (λ (w : ℕ). (plan W g s k rest).words (w + 1)) word2
                         ∙ word_at n 1 dn one
@@ -363,10 +370,29 @@ module _ (m : Meaning) (W : ℕ) (g : Graph) (s k : List Bool) (kp : Keeps m W g
                         ∙ ap (λ (o : Object). figure_of (object_at g (map_of o))) (sym fl);
                   }
 
+  -- no object takes more than 34 words
+  size-most : (q : ℕ) → get_or s q false ≡ true → size (object_at g q) ≤ 34
+  size-most q e = go (object_at g q) refl (formed q e)
+    where
+      formed : (t : ℕ) → get_or s t false ≡ true → Formed m g (object_at g t)
+      formed t d = kp.sound.formed t (below-many W g s fits long t d)
+
+      of-record : (l : ℕ) (cells : List Cell) (o : Object) → Formed m g o → FieldsOf m g o cells → 2 + length cells ≤ 34
+      of-record l cells (a_record x xs) f h = absurd h
+      of-record l cells (a_layout c n) f h = omega (arith, f.0, h.0)
+      of-record l cells (a_map x n p) f h = absurd h
+
+      go : (o : Object) → object_at g q ≡ o → Formed m g o → size o ≤ 34
+      go (a_layout c n) x f = omega arith
+      go (a_map r n p) x f = omega arith
+      go (a_record l cells) x f =
+          of-record l cells (object_at g l) (kp.sound.formed l (kp.sound.within q l (subst (λ (o : Object). Names o l) (sym x) its_layout))) f
+
   pub here-at : (q i : ℕ) → get_or s q false ≡ true → turn_of W g s q ≡ i + 1 → Here m (plan W g s k rest) (get_or k q false) (size (object_at g q)) (place_of W g k q) (place_of W g s q) i
   here-at q i e z =
       record {
         some = size-two (object_at g q);
+        most = size-most q e;
         owns = λ a x y. ap (rank_of W g s) (owner-in W g s fits long (length g.objects) q a (below-many W g s fits long q e) (record { stands = e; from = x; below = y })) ∙ z;
         owned = λ a x.
             let y = ranked-by W g s fits long (length g.objects) a (i + 1) x (omega arith) in
