@@ -10,7 +10,7 @@ use codec::header::{is_marked, is_unmarked, marked, size_in};
 use codec::value::{place_of, refers};
 use memory::Memory;
 use scheme::Scheme;
-use space::{Bounds, Classes, Records, Side, Space, WORDS};
+use space::{Bounds, Classes, MOST_WORDS, Records, Side, Space, WORDS};
 
 impl Pending {
     // Marks the object at a place, and keeps the place while there is room.
@@ -38,10 +38,10 @@ impl Pending {
         }
         let header = space.look(place);
         let slots = space.slots_of(scheme, place, header);
-        // By number: each word is looked up in a space that marking alters.
-        for i in 1..size_in(header) {
+        // By number: each word is read from a space that marking alters.
+        for i in 1..size_in(header).min(MOST_WORDS) {
             if slots.is_value(i) {
-                let word = space.look(place + i);
+                let word = space.memory.read((place + i) as usize);
                 if refers(word) {
                     self.mark_at(space, place_of(word));
                 }

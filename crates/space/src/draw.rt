@@ -6,7 +6,7 @@ ghost use Rattle.space.specs.Pass.{ThreadedWords, ThreadedHandles, Visited, Draw
 ghost use Rattle.space.specs.Slots.{values_of};
 ghost use Rattle.space.specs.Collect.{DrawsRecords, DrawsClasses, Draws};
 
-use crate::{Bounds, Classes, Object, Records, Side, Slots, Space, WORDS};
+use crate::{Bounds, Classes, MOST_WORDS, Object, Records, Side, Slots, Space, WORDS};
 use codec::header::is_marked;
 use codec::value::refers;
 use memory::Memory;
@@ -20,7 +20,7 @@ impl<M: Memory> Space<M> {
         ensures kept { KeptIn M.Memory.words self.old self.new }
     {
         // By number: each word is looked up in a space that its threading alters.
-        for i in 1..size {
+        for i in 1..size.min(MOST_WORDS) {
             if slots.is_value(i) {
                 let word = self.memory.read((place + i) as usize);
                 if refers(word) {

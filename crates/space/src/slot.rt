@@ -11,7 +11,7 @@ use codec::value::place_of;
 use memory::Memory;
 use scheme::Scheme;
 
-/// Which words of an object hold values: bit i says it of word i, and bit 63 of all words past it too, which no object has.
+/// Which words of an object hold values: bit i says it of word i, and bit 63 of the words past it too, which no object has.
 #[derive(Clone, Copy, PartialEq, Eq, Debug)]
 pub struct Slots {
     values: u64,
