@@ -69,6 +69,13 @@ shift-more up ws vs from to size i at w h room l e r so k = go (eqb k (to + at))
 
 -- Clearing.
 
+-- the test of a place, within and without
+pub inside : (from end k : ℕ) → from ≤ k → k < end → (leb from k && ltb k end) ≡ true
+inside from end k o i = grind (arith, nat_tests)
+
+pub outside : (from end k : ℕ) → (k < from) ⊎ (end ≤ k) → (leb from k && ltb k end) ≡ false
+outside from end k h = grind (arith, nat_tests)
+
 -- one word more is cleared
 pub clear-more : (ws vs : List ℕ) (from place : ℕ) → from ≤ place → place < length vs →
     ((k : ℕ) → get_or vs k 0 ≡ cleared ws from place k) → (k : ℕ) → get_or (set vs place 0) k 0 ≡ cleared ws from (place + 1) k
@@ -111,7 +118,7 @@ filled ws from end k l h =
     elim (cases_lt k from) [
       | inl i ↦
           let low : k < length (take from ws) = omega (arith, before) in
-          get_or_append_left (take from ws) (zeros ++ rest) 0 k low ∙ get_or-take from ws k 0 i ∙ sym (cond-false _ _ _ (below from end k i))
+          get_or_append_left (take from ws) (zeros ++ rest) 0 k low ∙ get_or-take from ws k 0 i ∙ sym (cond-false _ _ _ (outside from end k (inl i)))
       | inr o ↦ get_or-append_right (take from ws) (zeros ++ rest) from k 0 before o ∙ higher o
     ]
   where
@@ -127,26 +134,17 @@ filled ws from end k l h =
     before : length (take from ws) ≡ from
     before = length-take-le from ws (omega arith)
 
-    below : (from end k : ℕ) → k < from → (leb from k && ltb k end) ≡ false
-    below from end k i = grind (arith, nat_tests)
-
-    within : (from end k : ℕ) → from ≤ k → k < end → (leb from k && ltb k end) ≡ true
-    within from end k o i = grind (arith, nat_tests)
-
-    above : (from end k : ℕ) → end ≤ k → (leb from k && ltb k end) ≡ false
-    above from end k p = grind (arith, nat_tests)
-
     higher : from ≤ k → get_or (zeros ++ rest) (k - from) 0 ≡ cleared ws from end k
     higher o =
         elim (cases_lt k end) [
           | inl i ↦
               let low : k - from < length zeros = omega (arith, many) in
               get_or_append_left zeros rest 0 (k - from) low ∙ get_or-replicate (end - from) (k - from) 0 0 (omega arith)
-              ∙ sym (cond-true _ _ _ (within from end k o i))
+              ∙ sym (cond-true _ _ _ (inside from end k o i))
           | inr p ↦
               let high : end - from ≤ k - from = omega arith in
               let back : from + (end - from + (k - from - (end - from))) ≡ k = omega arith in
               get_or-append_right zeros rest (end - from) (k - from) 0 many high
               ∙ get_or-drop (end - from) (drop from ws) (k - from - (end - from)) 0 ∙ get_or-drop from ws (end - from + (k - from - (end - from))) 0
-              ∙ ap (λ x. get_or ws x 0) back ∙ sym (cond-false _ _ _ (above from end k p))
+              ∙ ap (λ x. get_or ws x 0) back ∙ sym (cond-false _ _ _ (outside from end k (inr p)))
         ]

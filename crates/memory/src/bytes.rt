@@ -1,6 +1,7 @@
 // A memory over a slice of bytes.
 ghost use Rattle.std.specs.Prelude.{◌≡◌, ℕ, ◌*◌, ◌/◌, ◌≤◌, length, slice_index, slice_set};
 ghost use Rattle.memory.specs.Bytes.{words_of};
+ghost use Rattle.memory.specs.Ranges.{shifted, cleared};
 
 use crate::Memory;
 
@@ -27,6 +28,29 @@ impl Memory for &mut [u8] {
         if place < self.len() / 4 {
             let at = place * 4;
             self[at..at + 4].copy_from_slice(&word.to_be_bytes());
+        }
+    }
+
+    // This and `clear` at once, as over a slice of words.
+    fn shift(&mut self, from: usize, to: usize, size: usize)
+        ensures length { length (words_of self.new.now) ≡ length (words_of self.old.now) }
+        ensures words { (k : ℕ) → slice_index (words_of self.new.now) k ≡ shifted (words_of self.old.now) from to size k }
+        ensures leftover { (k : ℕ) → length self.old.now / 4 * 4 ≤ k → slice_index self.new.now k ≡ slice_index self.old.now k }
+    {
+        let len = self.len() / 4;
+        if size <= len && from <= len - size && to <= len - size {
+            self.copy_within(from * 4..(from + size) * 4, to * 4);
+        }
+    }
+
+    fn clear(&mut self, from: usize, end: usize)
+        ensures length { length (words_of self.new.now) ≡ length (words_of self.old.now) }
+        ensures words { (k : ℕ) → slice_index (words_of self.new.now) k ≡ cleared (words_of self.old.now) from end k }
+        ensures leftover { (k : ℕ) → length self.old.now / 4 * 4 ≤ k → slice_index self.new.now k ≡ slice_index self.old.now k }
+    {
+        let end = end.min(self.len() / 4);
+        if from < end {
+            self[from * 4..end * 4].fill(0);
         }
     }
 }
