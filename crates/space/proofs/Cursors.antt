@@ -155,5 +155,5 @@ module _ {m : Meaning} {P : Plan} {up : Bool} (C : Course m P up) where
         | inr ne ↦
             let x = stops.size ne in
             let st = stepped q c t end f k ne x.0 (reads ne x.0 x.1) in
-            absurd (elim x.2 [ inl l ↦ omega (arith, l, st.room) | inr l ↦ omega (arith, l, st.low.0) ])
+            absurd (omega (arith, x.2, st.room))
       ]

@@ -41,8 +41,4 @@ impl Side for Classes {
     fn reference(place: u32) -> u32 {
         to_class(place)
     }
-
-    fn order(size: u32, i: u32) -> u32 {
-        size.saturating_sub(1).saturating_sub(i)
-    }
 }

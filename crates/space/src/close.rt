@@ -1,5 +1,5 @@
 // The backward update: records, then classes.
-ghost use Rattle.std.specs.Prelude.{◌≡◌, ◌+◌, ◌≤◌};
+ghost use Rattle.std.specs.Prelude.{◌≡◌};
 ghost use Rattle.space.specs.Keeping.{KeptIn};
 ghost use Rattle.space.specs.Weave.{Heads};
 ghost use Rattle.space.specs.Pass.{Closed, ClosedSide};
@@ -11,16 +11,14 @@ use memory::Memory;
 
 impl<M: Memory> Space<M> {
     // A marked object: its list is unthreaded to the new place, then it is moved and unmarked.
-    fn close_object<T: Side>(&mut self, object: Object, new_place: u32)
-        requires { (object.place + object.size ≤ 16384) × (new_place + object.size ≤ 16384) }
-        ensures closed { Heads (M.Memory.words self.old.memory) self.old.handles object.place object.header → Closed T.Side.upward (M.Memory.words self.old.memory) self.old.handles object.place new_place object.size (M.Memory.words self.new.memory) self.new.handles }
+    fn close_object(&mut self, object: Object, new_place: u32)
+        ensures closed { Heads (M.Memory.words self.old.memory) self.old.handles object.place object.header → Closed (M.Memory.words self.old.memory) self.old.handles object.place new_place object.size (M.Memory.words self.new.memory) self.new.handles }
         ensures kept { KeptIn M.Memory.words self.old self.new }
     {
         self.unthread(object.place, new_place, object.header);
-        self.slide::<T>(object.place, new_place, object.size);
+        self.slide(object.place, new_place, object.size);
         // Two less, down to 0: in wild words there need be no mark, and codec's `unmarked` would then leave the word.
-        let header = self.look(new_place);
-        self.store(new_place, header.saturating_sub(2));
+        self.store(new_place, object.header.saturating_sub(2));
     }
 
     // Goes over a side, and answers where it now ends.
@@ -35,12 +33,8 @@ impl<M: Memory> Space<M> {
             let Some(object) = self.object_at::<T>(cursor, end) else {
                 break;
             };
-            let new_place = T::place(to, object.size);
-            if new_place > WORDS || object.size > WORDS - new_place {
-                break;
-            }
             if is_marked(object.header) {
-                self.close_object::<T>(object, new_place);
+                self.close_object(object, T::place(to, object.size));
                 to = T::next(to, object.size);
             }
             cursor = T::next(cursor, object.size);

@@ -1,5 +1,5 @@
 // The forward update: handles, then records, then classes.
-ghost use Rattle.std.specs.Prelude.{◌≡◌, ◌+◌, ◌/◌, ◌%◌, ◌≤◌};
+ghost use Rattle.std.specs.Prelude.{◌+◌, ◌/◌, ◌%◌, ◌≤◌};
 ghost use Rattle.space.specs.Keeping.{KeptIn};
 ghost use Rattle.space.specs.Weave.{Heads};
 ghost use Rattle.space.specs.Pass.{ThreadedWords, ThreadedHandles, Visited, DrawnSide};
@@ -45,13 +45,15 @@ impl<M: Memory> Space<M> {
 
     // A marked object: its list is unthreaded to the new place, then its references are threaded.
     fn visit<S: Scheme>(&mut self, scheme: &S, object: Object, new_place: u32)
-        requires { object.place + object.size ≤ 16384 }
         ensures visited { Heads (M.Memory.words self.old.memory) self.old.handles object.place object.header → Visited (S.Scheme.meaning scheme.now) (M.Memory.words self.old.memory) self.old.handles object.place new_place object.size (object.header / 4 % 4) (M.Memory.words self.new.memory) self.new.handles }
         ensures kept { KeptIn M.Memory.words self.old self.new }
     {
         self.unthread(object.place, new_place, object.header);
         let slots = self.slots_of(scheme, object.place, object.header);
-        self.thread_words(object.place, object.size, slots);
+        // In wild words it need not lie within the heap's.
+        if object.place <= WORDS && object.size <= WORDS - object.place {
+            self.thread_words(object.place, object.size, slots);
+        }
     }
 
     // Goes over a side.

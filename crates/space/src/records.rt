@@ -42,8 +42,4 @@ impl Side for Records {
     fn reference(place: u32) -> u32 {
         to_record(place)
     }
-
-    fn order(size: u32, i: u32) -> u32 {
-        i
-    }
 }

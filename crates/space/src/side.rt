@@ -1,14 +1,14 @@
 // The two sides of a heap: records from the left by their headers, classes from the right by their boundary tags.
 ghost use Rattle.std.specs.Prelude.{◌≡◌, ◌+◌, ◌*◌, ◌^◌, ◌<◌, Bool};
 ghost use Rattle.space.specs.Ends.{innermost, taken, tag_by};
-ghost use Rattle.space.specs.Pass.{place_by, next_by, gap_by, order_by};
+ghost use Rattle.space.specs.Pass.{place_by, next_by, gap_by};
 ghost use Rattle.space.specs.Met.{Read, Met};
 
-use crate::{Bounds, Space, WORDS};
+use crate::{Bounds, Space};
 use memory::Memory;
 
 /// An object as a walk meets it: where it lies, how many words it takes, and the header at the end of its list.
-// That it lies within the words is no fact of the type: `read` gives an object before that is tested.
+// That it lies within the words is no fact of the type: in wild words it need not.
 #[derive(Clone, Copy)]
 pub struct Object {
     pub place: u32,
@@ -44,10 +44,6 @@ pub trait Side {
     // The reference to the object of the side at a place.
     fn reference(place: u32) -> u32
         ensures { place < 1073741824 → result ≡ place * 4 + tag_by upward };
-
-    // Which of the words of an object is moved as number i, of those below the size.
-    fn order(size: u32, i: u32) -> u32
-        ensures { result ≡ order_by upward size i };
 }
 
 impl<M: Memory> Space<M> {
@@ -60,9 +56,6 @@ impl<M: Memory> Space<M> {
         }
         let object = T::read(self, cursor);
         if object.size > T::gap(cursor, end) {
-            return None;
-        }
-        if object.place > WORDS || object.size > WORDS - object.place {
             return None;
         }
         Some(object)

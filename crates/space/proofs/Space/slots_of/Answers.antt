@@ -1,4 +1,4 @@
-use Rattle.std.proofs.Common.{◌≡◌, ◌/◌, ◌%◌, ◌≤◌, sym, ap, ◌∙◌, arith}
+use Rattle.std.proofs.Common.{◌≡◌, ◌/◌, ◌%◌, sym, ap, ◌∙◌, arith}
 use Rattle.codec.specs.Kinds.{shape_number}
 use Rattle.space.proofs.Masks.{layout-values, map-values}
 use Rattle.space.proofs.Space.slots_of.Goals as goal

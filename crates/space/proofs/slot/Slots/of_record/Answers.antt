@@ -1,4 +1,4 @@
-use Rattle.std.proofs.Common.{◌≡◌, ℕ, ◌*◌, ◌+◌, ◌-◌, ◌/◌, ◌%◌, ◌^◌, ◌<◌, Bool, min, eqb, subst, ap, ◌∙◌, arith}
+use Rattle.std.proofs.Common.{ℕ, ◌*◌, ◌+◌, ◌-◌, ◌/◌, ◌%◌, ◌^◌, min, eqb, ap, ◌∙◌, arith}
 use Rattle.space.proofs.Masks.{record-bits}
 use Rattle.space.proofs.slot.Slots.of_record.Goals as goal
 
