@@ -1,6 +1,6 @@
 -- The objects that a walk over a side meets.
-use Rattle.std.specs.Prelude.{◌≡◌, ℕ, Bool, List, Option, MatchOption}
-use Rattle.space.specs.Weave.{Heads}
+use Rattle.std.specs.Prelude.{◌≡◌, ℕ, ◌%◌, Bool, List, Option, MatchOption}
+use Rattle.space.specs.Weave.{view, Heads, Unthreaded}
 use Rattle.space.specs.Pass.{Sized, Comes, Stops, place_by}
 use Rattle.space.specs.declared.side.Object.{Object}
 
@@ -9,6 +9,16 @@ pub record Read (up : Bool) (ws hs : List ℕ) (c : ℕ) (o : Object) : Type 0 w
   pub sized : Sized up ws hs c o.size
   pub place : o.place ≡ place_by up c o.size
   pub header : Heads ws hs o.place o.header
+
+-- What the list of the object at p, which is to lie at q, has become: each of its slots refers to q. Where there is no list, all is as it was.
+pub record Paid (up : Bool) (ws hs : List ℕ) (p q : ℕ) (vs gs : List ℕ) : Type 0 where
+  pub listed : Unthreaded up ws hs p q vs gs
+  pub none : view ws hs p % 2 ≡ 1 → view vs gs ≡ view ws hs
+
+-- of the object that is met, if one is; and nothing is altered at the end
+abbrev pub PaidFor : Bool → List ℕ → List ℕ → ℕ → ℕ → ℕ → List ℕ → List ℕ → Option Object → Type 0
+PaidFor up ws hs c end t vs gs o =
+    MatchOption o (c ≡ end → view vs gs ≡ view ws hs) (λ o. Paid up ws hs o.place (place_by up t o.size) vs gs)
 
 -- the cursor has come to that object on its way to the end
 pub record MeetsOne (up : Bool) (ws hs : List ℕ) (c end : ℕ) (o : Object) : Type 0 where

@@ -1,5 +1,6 @@
 // The classes' side.
-ghost use Rattle.std.specs.Prelude.{Bool, false};
+ghost use Rattle.std.specs.Prelude.{◌≡◌, ◌-◌, Bool, false};
+ghost use Rattle.space.specs.Weave.{view};
 
 use crate::{Bounds, Object, Side, Space};
 use codec::value::to_class;
@@ -8,16 +9,33 @@ use memory::Memory;
 /// Classes: by their boundary tags, from the right.
 pub struct Classes;
 
+// The boundary tag that ends at the cursor.
+fn tag_before<M: Memory>(space: &Space<M>, cursor: u32) -> u32
+    ensures { result ≡ view (M.Memory.words space.now.memory) space.now.handles (cursor - 1) }
+{
+    space.look(cursor.saturating_sub(1))
+}
+
 impl Side for Classes {
     ghost upward = { false };
 
     fn read<M: Memory>(space: &Space<M>, cursor: u32) -> Object {
-        let size = space.look(cursor.saturating_sub(1));
+        let size = tag_before(space, cursor);
         let place = cursor.saturating_sub(size);
         Object {
             place,
             size,
             header: space.header_of(place),
+        }
+    }
+
+    fn meet<M: Memory>(space: &mut Space<M>, cursor: u32, to: u32) -> Object {
+        let size = tag_before(space, cursor);
+        let place = cursor.saturating_sub(size);
+        Object {
+            place,
+            size,
+            header: space.unthread(place, to_class(to.saturating_sub(size))),
         }
     }
 

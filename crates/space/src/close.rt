@@ -1,7 +1,6 @@
 // The backward update: records, then classes.
 ghost use Rattle.std.specs.Prelude.{◌≡◌};
 ghost use Rattle.space.specs.Keeping.{KeptIn};
-ghost use Rattle.space.specs.Weave.{Heads};
 ghost use Rattle.space.specs.Pass.{Closed, ClosedSide};
 ghost use Rattle.space.specs.Collect.{Closes};
 
@@ -10,12 +9,11 @@ use codec::header::is_marked;
 use memory::Memory;
 
 impl<M: Memory> Space<M> {
-    // A marked object: its list is unthreaded to the new place, then it is moved and unmarked.
+    // A marked object, whose list is taken off: it is moved and unmarked.
     fn close_object(&mut self, object: Object, new_place: u32)
-        ensures closed { Heads (M.Memory.words self.old.memory) self.old.handles object.place object.header → Closed (M.Memory.words self.old.memory) self.old.handles object.place new_place object.size (M.Memory.words self.new.memory) self.new.handles }
+        ensures closed { Closed (M.Memory.words self.old.memory) self.old.handles object.place new_place object.size object.header (M.Memory.words self.new.memory) self.new.handles }
         ensures kept { KeptIn M.Memory.words self.old self.new }
     {
-        self.unthread(object.place, new_place, object.header);
         self.slide(object.place, new_place, object.size);
         // Two less, down to 0: in wild words there need be no mark, and codec's `unmarked` would then leave the word.
         self.store(new_place, object.header.saturating_sub(2));
@@ -30,7 +28,7 @@ impl<M: Memory> Space<M> {
         let mut to = from;
         // Turns are counted, since in wild words a size may be 0. Four walks go so: a cursor that counts would be a type more and a line less in each.
         for turn in 0..WORDS {
-            let Some(object) = self.object_at::<T>(cursor, end) else {
+            let Some(object) = self.object_met::<T>(cursor, to, end) else {
                 break;
             };
             if is_marked(object.header) {

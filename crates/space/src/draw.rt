@@ -1,7 +1,6 @@
 // The forward update: handles, then records, then classes.
 ghost use Rattle.std.specs.Prelude.{◌+◌, ◌/◌, ◌%◌, ◌≤◌};
 ghost use Rattle.space.specs.Keeping.{KeptIn};
-ghost use Rattle.space.specs.Weave.{Heads};
 ghost use Rattle.space.specs.Pass.{ThreadedWords, ThreadedHandles, Visited, DrawnSide};
 ghost use Rattle.space.specs.Slots.{values_of};
 ghost use Rattle.space.specs.Collect.{DrawsRecords, DrawsClasses, Draws};
@@ -43,12 +42,11 @@ impl<M: Memory> Space<M> {
         }
     }
 
-    // A marked object: its list is unthreaded to the new place, then its references are threaded.
-    fn visit<S: Scheme>(&mut self, scheme: &S, object: Object, new_place: u32)
-        ensures visited { Heads (M.Memory.words self.old.memory) self.old.handles object.place object.header → Visited (S.Scheme.meaning scheme.now) (M.Memory.words self.old.memory) self.old.handles object.place new_place object.size (object.header / 4 % 4) (M.Memory.words self.new.memory) self.new.handles }
+    // A marked object, whose list is taken off: its references are threaded.
+    fn visit<S: Scheme>(&mut self, scheme: &S, object: Object)
+        ensures visited { Visited (S.Scheme.meaning scheme.now) (M.Memory.words self.old.memory) self.old.handles object.place object.size (object.header / 4 % 4) (M.Memory.words self.new.memory) self.new.handles }
         ensures kept { KeptIn M.Memory.words self.old self.new }
     {
-        self.unthread(object.place, new_place, object.header);
         let slots = self.slots_of(scheme, object.place, object.header);
         // In wild words it need not lie within the heap's.
         if object.place <= WORDS && object.size <= WORDS - object.place {
@@ -65,11 +63,11 @@ impl<M: Memory> Space<M> {
         let mut to = from;
         // Turns are counted, since in wild words a size may be 0. Four walks go so: a cursor that counts would be a type more and a line less in each.
         for turn in 0..WORDS {
-            let Some(object) = self.object_at::<T>(cursor, end) else {
+            let Some(object) = self.object_met::<T>(cursor, to, end) else {
                 break;
             };
             if is_marked(object.header) {
-                self.visit(scheme, object, T::place(to, object.size));
+                self.visit(scheme, object);
                 to = T::next(to, object.size);
             }
             cursor = T::next(cursor, object.size);

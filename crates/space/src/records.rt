@@ -1,5 +1,5 @@
 // The records' side.
-ghost use Rattle.std.specs.Prelude.{Bool, true};
+ghost use Rattle.std.specs.Prelude.{◌≡◌, ◌/◌, Bool, true};
 
 use crate::{Bounds, Object, Side, Space};
 use codec::header::size_in;
@@ -9,16 +9,26 @@ use memory::Memory;
 /// Records: by their headers, from the left.
 pub struct Records;
 
+// The record at a place, by its header.
+fn record(place: u32, header: u32) -> Object
+    ensures { (result.place ≡ place) × (result.size ≡ header / 16) × (result.header ≡ header) }
+{
+    Object {
+        place,
+        size: size_in(header),
+        header,
+    }
+}
+
 impl Side for Records {
     ghost upward = { true };
 
     fn read<M: Memory>(space: &Space<M>, cursor: u32) -> Object {
-        let header = space.header_of(cursor);
-        Object {
-            place: cursor,
-            size: size_in(header),
-            header,
-        }
+        record(cursor, space.header_of(cursor))
+    }
+
+    fn meet<M: Memory>(space: &mut Space<M>, cursor: u32, to: u32) -> Object {
+        record(cursor, space.unthread(cursor, to_record(to)))
     }
 
     fn place(cursor: u32, size: u32) -> u32 {
@@ -26,7 +36,7 @@ impl Side for Records {
     }
 
     fn next(cursor: u32, size: u32) -> u32 {
-        cursor.saturating_add(size)
+        cursor.wrapping_add(size)
     }
 
     fn gap(cursor: u32, end: u32) -> u32 {

@@ -1,8 +1,9 @@
 // The two sides of a heap: records from the left by their headers, classes from the right by their boundary tags.
-ghost use Rattle.std.specs.Prelude.{◌≡◌, ◌+◌, ◌*◌, ◌^◌, ◌<◌, Bool};
+ghost use Rattle.std.specs.Prelude.{◌≡◌, ◌+◌, ◌*◌, ◌^◌, ◌<◌, ◌≤◌, Bool, MatchOption};
 ghost use Rattle.space.specs.Ends.{innermost, taken, tag_by};
 ghost use Rattle.space.specs.Pass.{place_by, next_by, gap_by};
-ghost use Rattle.space.specs.Met.{Read, Met};
+ghost use Rattle.space.specs.Keeping.{KeptIn};
+ghost use Rattle.space.specs.Met.{Read, Met, Paid, PaidFor};
 
 use crate::{Bounds, Space};
 use memory::Memory;
@@ -20,9 +21,15 @@ pub struct Object {
 pub trait Side {
     ghost upward: { Bool };
 
-    // The object that the cursor has come to, whose list is followed once for its header.
+    // The object that the cursor has come to, whose list is followed for its header.
     fn read<M: Memory>(space: &Space<M>, cursor: u32) -> Object
         ensures { Read upward (M.Memory.words space.now.memory) space.now.handles cursor result };
+
+    // The same, and each slot of the list gets the reference to where the object is to lie: where `to` is the new cursor.
+    fn meet<M: Memory>(space: &mut Space<M>, cursor: u32, to: u32) -> Object
+        ensures read { Read upward (M.Memory.words space.old.memory) space.old.handles cursor result }
+        ensures paid { Paid upward (M.Memory.words space.old.memory) space.old.handles result.place (place_by upward to result.size) (M.Memory.words space.new.memory) space.new.handles }
+        ensures kept { KeptIn M.Memory.words space.old space.new };
 
     // Where an object of that size lies.
     fn place(cursor: u32, size: u32) -> u32
@@ -46,6 +53,16 @@ pub trait Side {
         ensures { place < 1073741824 → result ≡ place * 4 + tag_by upward };
 }
 
+// The object, if it lies between the cursor and the end. In wild words it need not.
+fn within<T: Side>(object: Object, cursor: u32, end: u32) -> Option<Object>
+    ensures { MatchOption result (gap_by T.Side.upward cursor end < object.size) (λ o. (o ≡ object) × (object.size ≤ gap_by T.Side.upward cursor end)) }
+{
+    if object.size > T::gap(cursor, end) {
+        return None;
+    }
+    Some(object)
+}
+
 impl<M: Memory> Space<M> {
     /// The object that the cursor has come to on its way to the end, if one lies there.
     pub fn object_at<T: Side>(&self, cursor: u32, end: u32) -> Option<Object>
@@ -54,10 +71,18 @@ impl<M: Memory> Space<M> {
         if cursor == end {
             return None;
         }
-        let object = T::read(self, cursor);
-        if object.size > T::gap(cursor, end) {
+        within::<T>(T::read(self, cursor), cursor, end)
+    }
+
+    // The same, its list taken off: its slots refer to where the object is to lie.
+    pub(crate) fn object_met<T: Side>(&mut self, cursor: u32, to: u32, end: u32) -> Option<Object>
+        ensures met { Met T.Side.upward (M.Memory.words self.old.memory) self.old.handles cursor end result }
+        ensures paid { PaidFor T.Side.upward (M.Memory.words self.old.memory) self.old.handles cursor end to (M.Memory.words self.new.memory) self.new.handles result }
+        ensures kept { KeptIn M.Memory.words self.old self.new }
+    {
+        if cursor == end {
             return None;
         }
-        Some(object)
+        within::<T>(T::meet(self, cursor, to), cursor, end)
     }
 }

@@ -1,23 +1,13 @@
 // Threading: the slots that refer to an object form a list that begins at its header's place and ends with the header.
-ghost use Rattle.std.specs.Prelude.{◌≡◌, ◌<◌};
-ghost use Rattle.space.specs.Weave.{view, reference, Heads, Threaded, Unthreaded};
+ghost use Rattle.std.specs.Prelude.{◌≡◌, ℕ, ◌+◌, ◌*◌, ◌%◌, ◌<◌, Bool};
+ghost use Rattle.space.specs.Ends.{tag_by};
+ghost use Rattle.space.specs.Weave.{view, Heads, Threaded, Unthreaded};
 ghost use Rattle.space.specs.Keeping.{KeptIn};
 
 use crate::{ADDRESSES, Space};
-use codec::header::{Shape, shape_in};
 use codec::link::{address_of, ends_list, link_to};
-use codec::value::{place_of, to_class, to_record};
+use codec::value::place_of;
 use memory::Memory;
-
-// The reference to the object with that header, at that place.
-fn reference_to(place: u32, header: u32) -> u32
-    ensures { place < 16384 → result ≡ reference place header }
-{
-    match shape_in(header) {
-        Some(Shape::Record) => to_record(place),
-        _ => to_class(place),
-    }
-}
 
 impl<M: Memory> Space<M> {
     // The header at the end of the list that begins at the header's place.
@@ -48,13 +38,17 @@ impl<M: Memory> Space<M> {
         }
     }
 
-    // Takes the list off the header at the place, which stands at its end, and has each of its slots refer to the new place.
-    pub(crate) fn unthread(&mut self, place: u32, new_place: u32, header: u32)
-        ensures woven { Heads (M.Memory.words self.old.memory) self.old.handles place header → Unthreaded (M.Memory.words self.old.memory) self.old.handles place new_place (M.Memory.words self.new.memory) self.new.handles }
+    // Takes the list off the header at the place, so that it stands there again, and puts the reference into each slot of the list. Gives the header.
+    pub(crate) fn unthread(&mut self, place: u32, reference: u32) -> u32
+        ensures header { Heads (M.Memory.words self.old.memory) self.old.handles place result }
+        ensures woven { (up : Bool) (q : ℕ) → (q < 16384 → reference ≡ q * 4 + tag_by up) → Unthreaded up (M.Memory.words self.old.memory) self.old.handles place q (M.Memory.words self.new.memory) self.new.handles }
+        ensures none { view (M.Memory.words self.old.memory) self.old.handles place % 2 ≡ 1 → view (M.Memory.words self.new.memory) self.new.handles ≡ view (M.Memory.words self.old.memory) self.old.handles }
         ensures kept { KeptIn M.Memory.words self.old self.new }
     {
-        let reference = reference_to(new_place, header);
         let mut word = self.look(place);
+        if ends_list(word) {
+            return word;
+        }
         // Turns are counted, since in wild words a list need not end: a `while` would have no measure.
         for turn in 0..ADDRESSES {
             if ends_list(word) {
@@ -65,5 +59,6 @@ impl<M: Memory> Space<M> {
             self.store(slot, reference);
         }
         self.store(place, word);
+        word
     }
 }
