@@ -42,6 +42,95 @@ mod tests {
         assert_eq!(rt; bytes, [1, 2, 3, 4, 255, 254, 253, 252, 9, 9, 9]);
     }
 
+    fn filled<M: Memory>(memory: &mut M) {
+        for (place, word) in [1, 2, 3, 4, 5u32].iter().enumerate() {
+            memory.write(place, *word);
+        }
+    }
+
+    fn held<M: Memory>(memory: &M) -> [u32; 5] {
+        [0, 1, 2, 3, 4].map(|place| memory.read(place))
+    }
+
+    // Five words moved: over one another both ways, apart, none at all, and to or from where they do not all lie.
+    fn moved<M: Memory>(rt: &impl Abort, memory: &mut M) {
+        let table = [
+            (1, 0, 4, [2, 3, 4, 5, 5u32]),
+            (0, 1, 4, [1, 1, 2, 3, 4]),
+            (2, 0, 3, [3, 4, 5, 4, 5]),
+            (0, 2, 3, [1, 2, 1, 2, 3]),
+            (0, 3, 2, [1, 2, 3, 1, 2]),
+            (4, 0, 1, [5, 2, 3, 4, 5]),
+            (1, 1, 4, [1, 2, 3, 4, 5]),
+            (1, 4, 0, [1, 2, 3, 4, 5]),
+            (5, 5, 0, [1, 2, 3, 4, 5]),
+            (6, 0, 0, [1, 2, 3, 4, 5]),
+            (0, 3, 3, [1, 2, 3, 4, 5]),
+            (3, 0, 3, [1, 2, 3, 4, 5]),
+            (0, 1, 5, [1, 2, 3, 4, 5]),
+            (0, 0, 6, [1, 2, 3, 4, 5]),
+            (1, 0, usize::MAX, [1, 2, 3, 4, 5]),
+            (usize::MAX, 0, 2, [1, 2, 3, 4, 5]),
+            (0, usize::MAX, 2, [1, 2, 3, 4, 5]),
+        ];
+        for (from, to, size, after) in table {
+            filled(memory);
+            memory.shift(from, to, size);
+            assert_eq!(rt; held(memory), after);
+        }
+    }
+
+    // Five words cleared: within, past the end, and none at all.
+    fn cleared<M: Memory>(rt: &impl Abort, memory: &mut M) {
+        let table = [
+            (1, 3, [1, 0, 0, 4, 5u32]),
+            (0, 1, [0, 2, 3, 4, 5]),
+            (4, 5, [1, 2, 3, 4, 0]),
+            (3, 6, [1, 2, 3, 0, 0]),
+            (0, usize::MAX, [0, 0, 0, 0, 0]),
+            (2, 2, [1, 2, 3, 4, 5]),
+            (4, 1, [1, 2, 3, 4, 5]),
+            (5, 6, [1, 2, 3, 4, 5]),
+            (usize::MAX, usize::MAX, [1, 2, 3, 4, 5]),
+        ];
+        for (from, end, after) in table {
+            filled(memory);
+            memory.clear(from, end);
+            assert_eq!(rt; held(memory), after);
+        }
+    }
+
+    #[test]
+    fn ranges_of_words(rt: HostRuntime) {
+        let mut words = [9u32; 5];
+        let mut memory: &mut [u32] = &mut words;
+        moved(&rt, &mut memory);
+        cleared(&rt, &mut memory);
+        let mut none: &mut [u32] = &mut [];
+        none.shift(0, 0, 0);
+        none.shift(0, 1, 1);
+        none.clear(0, 1);
+        assert_eq!(rt; none.read(0), 0);
+    }
+
+    // The three bytes behind the fifth word stay.
+    #[test]
+    fn ranges_of_bytes(rt: HostRuntime) {
+        let mut bytes = [9u8; 23];
+        let mut memory: &mut [u8] = &mut bytes;
+        moved(&rt, &mut memory);
+        cleared(&rt, &mut memory);
+        let mut few: &mut [u8] = &mut bytes[20..];
+        few.shift(0, 0, 1);
+        few.clear(0, 1);
+        assert_eq!(rt;
+            bytes,
+            [
+                0, 0, 0, 1, 0, 0, 0, 2, 0, 0, 0, 3, 0, 0, 0, 4, 0, 0, 0, 5, 9, 9, 9
+            ]
+        );
+    }
+
     // The rules at their edges: whether admitted, whether fields 0, 30, 31 and 32 are raw, and how many of 0, 31, 32 and 33 fields are.
     fn asked<S: Scheme>(scheme: &S, rule: u32) -> (bool, [bool; 4], [u32; 4]) {
         (

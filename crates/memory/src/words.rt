@@ -18,4 +18,19 @@ impl Memory for &mut [u32] {
             self[place] = word;
         }
     }
+
+    // This and `clear` at once: the trait's own bodies go word by word.
+    fn shift(&mut self, from: usize, to: usize, size: usize) {
+        let len = self.len();
+        if size <= len && from <= len - size && to <= len - size {
+            self.copy_within(from..from + size, to);
+        }
+    }
+
+    fn clear(&mut self, from: usize, end: usize) {
+        let end = end.min(self.len());
+        if from < end {
+            self[from..end].fill(0);
+        }
+    }
 }
