@@ -1,9 +1,11 @@
 -- A new object.
-use Rattle.std.proofs.Common.{◌≡◌, ℕ, suc, ◌+◌, ◌-◌, ◌*◌, ◌<◌, ◌≤◌, min, Bool, true, false, cond, not, ◌&&◌, ltb, List, [], ◌∷◌, ◌++◌, map, length, get_or, take, drop, set, replicate, ℤ, pos, IsErrAnd, Ok, Err, Result, sym, refl, ap, ◌∙◌, subst, ap₂, inl, inr, add-zero, arith, length-set}
-use lib.ListN.{length-replicate}
+use Rattle.std.proofs.Common.{◌≡◌, ℕ, zero, suc, ◌+◌, ◌-◌, ◌*◌, ◌<◌, ◌≤◌, min, Bool, true, false, cond, not, ◌&&◌, eqb, ltb, leb, List, [], ◌∷◌, ◌++◌, map, length, get_or, take, drop, set, replicate, ℤ, pos, IsErrAnd, Ok, Err, Result, sym, refl, ap, ◌∙◌, subst, ap₂, inl, inr, add-zero, arith, length-set}
 use lib.Seq.{take-set-lt}
-use Rattle.std.proofs.lemmas.Bool.{cases_Bool, cond-true, cond-false, lt-ltb, le-ltb, not_from_true, eq-eqb}
-use Rattle.std.proofs.lemmas.List.{drop-set-lt, length-map, replicate_more}
+use Rattle.std.proofs.lemmas.Bool.{cases_Bool, cases_lt, cond-true, cond-false, lt-ltb, le-ltb, not_from_true, eq-eqb, eqb-true, eqb-false}
+use Rattle.std.proofs.lemmas.Bool.Decides.{nat_tests}
+use Rattle.std.proofs.lemmas.Grind.{same_number_lists}
+use Rattle.std.proofs.lemmas.List.{drop-set-lt, length-map, get_or_past, get_or-set_same, get_or-set_other}
+use Rattle.memory.specs.Ranges.{cleared as zeroed}
 use Rattle.scheme.specs.Meaning.{Meaning, is_raw}
 use Rattle.graph.specs.declared.Call.{Call}
 use Rattle.graph.specs.declared.Refusal.{Refusal}
@@ -47,11 +49,40 @@ pub put-push : (ws xs : List ℕ) (p w : ℕ) → put xs p (ws ++ (w ∷ [])) �
 put-push [] xs p w = ap (λ (k : ℕ). set xs k w) (sym (add-zero p))
 put-push (y ∷ ws) xs p w = let e : suc p + length ws ≡ p + suc (length ws) = omega arith in put-push ws (set xs p y) (suc p) w ∙ ap (λ (k : ℕ). set (put (set xs p y) (suc p) ws) k w) e
 
-pub put-zero : (xs : List ℕ) (p n : ℕ) → set (put xs p (replicate n 0)) (p + n) 0 ≡ put xs p (replicate (n + 1) 0)
-put-zero xs p n =
-    ap (λ (k : ℕ). set (put xs p (replicate n 0)) (p + k) 0) (sym (length-replicate {A = ℕ} n 0))
-    ∙ sym (put-push (replicate n 0) xs p 0)
-    ∙ ap (put xs p) (replicate_more n 0)
+-- the word at k after so many zeros are written
+zeros-at : (ws : List ℕ) (p n k : ℕ) → get_or (put ws p (replicate n 0)) k 0 ≡ zeroed ws p (p + n) k
+zeros-at ws p zero k = sym (cond-false _ _ _ (none p k))
+  where
+    none : (p k : ℕ) → (leb p k && ltb k (p + 0)) ≡ false
+    none p k = grind (arith, nat_tests)
+zeros-at ws p (suc n) k = zeros-at (set ws p 0) (suc p) n k ∙ go (eqb k p) refl
+  where
+    here : (p n k : ℕ) → k ≡ p → (leb p k && ltb k (p + suc n)) ≡ true
+    here p n k e = grind (arith, nat_tests)
+
+    above : (p n k : ℕ) → k ≡ p → (leb (suc p) k && ltb k (suc p + n)) ≡ false
+    above p n k e = grind (arith, nat_tests)
+
+    elsewhere : (p n k : ℕ) → (k ≡ p → ⊥) → (leb (suc p) k && ltb k (suc p + n)) ≡ (leb p k && ltb k (p + suc n))
+    elsewhere p n k h = grind (arith, nat_tests)
+
+    blank : get_or (set ws p 0) p 0 ≡ 0
+    blank = elim (cases_lt p (length ws)) [
+      | inl i ↦ get_or-set_same ws p 0 0 i
+      | inr o ↦ get_or_past (set ws p 0) p 0 (subst (λ j. j ≤ p) (sym (length-set ws p 0)) o)
+    ]
+
+    go : (b : Bool) → eqb k p ≡ b → zeroed (set ws p 0) (suc p) (suc p + n) k ≡ zeroed ws p (p + suc n) k
+    go true z =
+        let e : k ≡ p = eqb-true _ _ z in
+        cond-false _ _ _ (above p n k e) ∙ ap (λ x. get_or (set ws p 0) x 0) e ∙ blank ∙ sym (cond-true _ _ _ (here p n k e))
+    go false z =
+        let h : k ≡ p → ⊥ = eqb-false _ _ z in
+        ap₂ (λ b w. cond b 0 w) (elsewhere p n k h) (get_or-set_other ws p k 0 0 h)
+
+-- a range of the words that is cleared is so many zeros written one after another
+pub put-zeros : (ws vs : List ℕ) (p n : ℕ) → length vs ≡ length ws → ((k : ℕ) → get_or vs k 0 ≡ zeroed ws p (p + n) k) → vs ≡ put ws p (replicate n 0)
+put-zeros ws vs p n l so = same_number_lists vs _ (l ∙ sym (length-put (replicate n 0) ws p)) (λ k _. so k ∙ sym (zeros-at ws p n k))
 
 -- Room.
 

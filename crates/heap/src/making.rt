@@ -1,5 +1,5 @@
 // The calls that make objects, each innermost on its side.
-ghost use Rattle.std.specs.Prelude.{◌≡◌, ℕ, ◌+◌, ◌-◌, ◌*◌, ◌<◌, ◌≤◌, length, replicate, ℤ, pos};
+ghost use Rattle.std.specs.Prelude.{◌≡◌, ℕ, ◌+◌, ◌-◌, ◌*◌, ◌<◌, ◌≤◌, length, ℤ, pos};
 ghost use Rattle.graph.specs.declared.Call.TheVariants.{Map, Layout, Record};
 ghost use Rattle.graph.specs.Words.{put};
 ghost use Rattle.space.specs.Ends.{innermost, taken, tag_by};
@@ -53,19 +53,6 @@ impl<M: Memory, S: Scheme> Heap<M, S> {
         // By index: a memory has no slice to copy to, and an open range of places beside the words would be no plainer.
         for (i, word) in words.iter().enumerate() {
             self.space.memory.write(place as usize + i, *word);
-        }
-    }
-
-    /// Writes 0 into the words of an object from one up to another.
-    fn put_zeros(&mut self, place: u32, from: u32, end: u32)
-        requires { from ≤ end }
-        ensures memory { M.Memory.words self.new.space.memory ≡ put (M.Memory.words self.old.space.memory) (place + from) (replicate (end - from) 0) }
-        ensures handles { self.new.space.handles ≡ self.old.space.handles }
-        ensures bounds { self.new.bounds ≡ self.old.bounds }
-        ensures scheme { self.new.scheme ≡ self.old.scheme }
-    {
-        for i in from..end {
-            self.space.memory.write(place as usize + i as usize, 0);
         }
     }
 
@@ -140,7 +127,9 @@ impl<M: Memory, S: Scheme> Heap<M, S> {
         ];
         self.put(place, &words);
         // Free words are 0 at rest; but a heap may be taken up over any words, and a new record's fields are 0 there too.
-        self.put_zeros(place, 2, size);
+        self.space
+            .memory
+            .clear(place as usize + 2, place as usize + size as usize);
         self.space.handles[target as usize] = Records::reference(place);
         Ok(())
     }
