@@ -1,8 +1,11 @@
 -- A new object.
-use Rattle.std.proofs.Common.{◌≡◌, ℕ, suc, ◌+◌, ◌-◌, ◌*◌, ◌<◌, ◌≤◌, min, Bool, true, false, cond, not, ◌&&◌, ltb, List, [], ◌∷◌, ◌++◌, map, length, get_or, take, drop, set, replicate, ℤ, pos, IsErrAnd, Ok, Err, Result, sym, refl, ap, ◌∙◌, subst, ap₂, inl, inr, add-zero, arith, length-set}
+use Rattle.std.proofs.Common.{◌≡◌, ℕ, zero, suc, ◌+◌, ◌-◌, ◌*◌, ◌<◌, ◌≤◌, min, Bool, true, false, cond, not, ◌&&◌, eqb, ltb, leb, List, [], ◌∷◌, ◌++◌, map, length, get_or, take, drop, set, replicate, ℤ, pos, IsErrAnd, Ok, Err, Result, sym, refl, ap, ◌∙◌, subst, ap₂, inl, inr, add-zero, arith, length-set}
 use lib.Seq.{take-set-lt}
-use Rattle.std.proofs.lemmas.Bool.{cases_Bool, cond-true, cond-false, lt-ltb, le-ltb, not_from_true, eq-eqb}
-use Rattle.std.proofs.lemmas.List.{drop-set-lt, take-replicate, length-map}
+use Rattle.std.proofs.lemmas.Bool.{cases_Bool, cases_lt, cond-true, cond-false, lt-ltb, le-ltb, not_from_true, eq-eqb, eqb-true, eqb-false}
+use Rattle.std.proofs.lemmas.Bool.Decides.{nat_tests}
+use Rattle.std.proofs.lemmas.Grind.{same_number_lists}
+use Rattle.std.proofs.lemmas.List.{drop-set-lt, length-map, get_or_past, get_or-set_same, get_or-set_other}
+use Rattle.memory.specs.Ranges.{cleared as zeroed}
 use Rattle.scheme.specs.Meaning.{Meaning, is_raw}
 use Rattle.graph.specs.declared.Call.{Call}
 use Rattle.graph.specs.declared.Refusal.{Refusal}
@@ -21,7 +24,7 @@ use Rattle.graph.proofs.Frame.{total-sides, length-object_words, size-pos}
 use Rattle.graph.proofs.Stays.{room-made, kind-object, fresh-names}
 use Rattle.graph.proofs.Sound.{stands-below, live-le, names-out}
 use Rattle.graph.specs.Sound.{Sound}
-use Rattle.heap.specs.Effects.{View, parts, with_class, with_record, record_words, handle_word, place_in, effect, Alters}
+use Rattle.heap.specs.Effects.{View, parts, with_class, with_record, record_words, handle_word, effect, Alters}
 use Rattle.std.proofs.lemmas.Result.{err_from_is_err_and}
 use Rattle.heap.specs.declared.Heap.{Heap}
 use Rattle.heap.specs.Views.{view, Stands, Done, Meets, Room, Rooms, outcome_of}
@@ -45,6 +48,41 @@ drop-put (w ∷ ws) xs p W l = drop-put ws (set xs p w) (suc p) W (omega arith) 
 pub put-push : (ws xs : List ℕ) (p w : ℕ) → put xs p (ws ++ (w ∷ [])) ≡ set (put xs p ws) (p + length ws) w
 put-push [] xs p w = ap (λ (k : ℕ). set xs k w) (sym (add-zero p))
 put-push (y ∷ ws) xs p w = let e : suc p + length ws ≡ p + suc (length ws) = omega arith in put-push ws (set xs p y) (suc p) w ∙ ap (λ (k : ℕ). set (put (set xs p y) (suc p) ws) k w) e
+
+-- the word at k after so many zeros are written
+zeros-at : (ws : List ℕ) (p n k : ℕ) → get_or (put ws p (replicate n 0)) k 0 ≡ zeroed ws p (p + n) k
+zeros-at ws p zero k = sym (cond-false _ _ _ (none p k))
+  where
+    none : (p k : ℕ) → (leb p k && ltb k (p + 0)) ≡ false
+    none p k = grind (arith, nat_tests)
+zeros-at ws p (suc n) k = zeros-at (set ws p 0) (suc p) n k ∙ go (eqb k p) refl
+  where
+    here : (p n k : ℕ) → k ≡ p → (leb p k && ltb k (p + suc n)) ≡ true
+    here p n k e = grind (arith, nat_tests)
+
+    above : (p n k : ℕ) → k ≡ p → (leb (suc p) k && ltb k (suc p + n)) ≡ false
+    above p n k e = grind (arith, nat_tests)
+
+    elsewhere : (p n k : ℕ) → (k ≡ p → ⊥) → (leb (suc p) k && ltb k (suc p + n)) ≡ (leb p k && ltb k (p + suc n))
+    elsewhere p n k h = grind (arith, nat_tests)
+
+    blank : get_or (set ws p 0) p 0 ≡ 0
+    blank = elim (cases_lt p (length ws)) [
+      | inl i ↦ get_or-set_same ws p 0 0 i
+      | inr o ↦ get_or_past (set ws p 0) p 0 (subst (λ j. j ≤ p) (sym (length-set ws p 0)) o)
+    ]
+
+    go : (b : Bool) → eqb k p ≡ b → zeroed (set ws p 0) (suc p) (suc p + n) k ≡ zeroed ws p (p + suc n) k
+    go true z =
+        let e : k ≡ p = eqb-true _ _ z in
+        cond-false _ _ _ (above p n k e) ∙ ap (λ x. get_or (set ws p 0) x 0) e ∙ blank ∙ sym (cond-true _ _ _ (here p n k e))
+    go false z =
+        let h : k ≡ p → ⊥ = eqb-false _ _ z in
+        ap₂ (λ b w. cond b 0 w) (elsewhere p n k h) (get_or-set_other ws p k 0 0 h)
+
+-- a range of the words that is cleared is so many zeros written one after another
+pub put-zeros : (ws vs : List ℕ) (p n : ℕ) → length vs ≡ length ws → ((k : ℕ) → get_or vs k 0 ≡ zeroed ws p (p + n) k) → vs ≡ put ws p (replicate n 0)
+put-zeros ws vs p n l so = same_number_lists vs _ (l ∙ sym (length-put (replicate n 0) ws p)) (λ k _. so k ∙ sym (zeros-at ws p n k))
 
 -- Room.
 
@@ -235,11 +273,6 @@ record-words ref m g q c n =
 pub fresh-size : (m : Meaning) (g : Graph) (q c n : ℕ) → size (fresh_record m g q (a_layout c n)) ≡ 2 + c
 fresh-size m g q c n = ap (λ (j : ℕ). 2 + j) (many m (figure_of (object_at g n)) c)
 
-front : (h w c : ℕ) → c ≤ 32 → take (2 + c) (h ∷ w ∷ replicate 32 0) ≡ h ∷ w ∷ replicate c 0
-front h w c l =
-    let e : 2 + c ≡ suc (suc c) = omega arith in
-    ap (λ (j : ℕ). take j (h ∷ w ∷ replicate 32 0)) e ∙ ap {B = List ℕ} (λ ws. h ∷ w ∷ ws) (take-replicate c 32 0 l)
-
 -- the layout that a value is
 layout_kind : (o : Object) → object_kind o ≡ 3 → o ≡ a_layout (figure_of o) (map_of o)
 layout_kind (a_record l cells) k = absurd (omega arith)
@@ -315,8 +348,8 @@ module _ (m : Meaning) (v : View) (g : Graph) (s : List Bool) (st : Stands m v g
         limit = put.limit;
       }
 
-  pub record-done : (d l n : ℕ) → l < 32 → kind_of g (held g l) ≡ 3 → n ≡ 2 + figure_of (object_of g (held g l)) → n ≤ 34 → Passes (row m v.limit g (Record d l)).0 → Room m n v g s v₁ (Ok tt) → RecordPut v₁ v₂ d n (take n ((1 + 16 * n) ∷ get_or v₁.handles l 0 ∷ replicate 32 0)) → Done m (Record d l) v g s v₂ (Ok (pos 0))
-  record-done d l n ll k n-is small ok room put =
+  pub record-done : (d l n : ℕ) → l < 32 → kind_of g (held g l) ≡ 3 → n ≡ 2 + figure_of (object_of g (held g l)) → Passes (row m v.limit g (Record d l)).0 → Room m n v g s v₁ (Ok tt) → RecordPut v₁ v₂ d n ((1 + 16 * n) ∷ get_or v₁.handles l 0 ∷ replicate (n - 2) 0) → Done m (Record d l) v g s v₂ (Ok (pos 0))
+  record-done d l n ll k n-is ok room put =
       let x = held g l in
       let q = position_of x in
       let c = figure_of (object_of g x) in
@@ -328,14 +361,15 @@ module _ (m : Meaning) (v : View) (g : Graph) (s : List Bool) (st : Stands m v g
       let room' : Room m (size o) v g s v₁ (Ok tt) = subst (λ (j : ℕ). Room m j v g s v₁ (Ok tt)) (sym size_is) room in
       let ref = reference v₁.limit g (cleared v.limit g s (size o)) in
       let w : get_or v₁.handles l 0 ≡ ref q = read₁ (size o) l room' ll ∙ ap (value_word ref) named in
-      let ws : take n ((1 + 16 * n) ∷ get_or v₁.handles l 0 ∷ replicate 32 0) ≡ object_words ref false o =
-      ap₂ (λ (j a : ℕ). take j ((1 + 16 * j) ∷ a ∷ replicate 32 0)) n-is w
-      ∙ front (1 + 16 * (2 + c)) (ref q) c (omega (arith, n-is, small))
+      let fields : 2 + c - 2 ≡ c = omega arith in
+      let ws : (1 + 16 * n) ∷ get_or v₁.handles l 0 ∷ replicate (n - 2) 0 ≡ object_words ref false o =
+      ap₂ {C = List ℕ} (λ (j a : ℕ). (1 + 16 * j) ∷ a ∷ replicate (j - 2) 0) n-is w
+      ∙ ap {B = List ℕ} (λ (j : ℕ). (1 + 16 * (2 + c)) ∷ ref q ∷ replicate j 0) fields
       ∙ sym (record-words ref m g q c (map_of (object_of g x)))
       ∙ ap (λ (y : Object). object_words ref false (fresh_record m g q y)) (sym is-layout)
       in
       made-done m (Record d l) v g s st v₁ same later d o refl ok room' (record-stands m v.limit g l named) v₂
-      (record-puts d o ref _ rec ws (subst (λ (j : ℕ). RecordPut v₁ v₂ d j (take n ((1 + 16 * n) ∷ get_or v₁.handles l 0 ∷ replicate 32 0))) (sym size_is) put))
+      (record-puts d o ref _ rec ws (subst (λ (j : ℕ). RecordPut v₁ v₂ d j ((1 + 16 * n) ∷ get_or v₁.handles l 0 ∷ replicate (n - 2) 0)) (sym size_is) put))
 
 -- the exit of a making call that finds no room
 pub room-exits : {M S X : Type 0} (words : M → List ℕ) (meaning : S → Meaning) (c : Call) (h k : Heap M S) (f : X → ℤ) (need d : ℕ) (o : Graph → Object) (r : Result X Refusal) {e : Refusal} → IsErrAnd r (λ y. y ≡ e) → Rooms (meaning h.scheme) need (view words h) (view words k) (Err e) → k.scheme ≡ h.scheme → Alters (effect c (view words h)) (view words h) (Err e) (view words k)
@@ -370,13 +404,9 @@ record-alters v v₁ v₂ d n ws put same some room small =
     parts_same put.memory (put.handles (omega (arith, low))) (put.low (omega (arith, low))) put.high put.limit ∙ ap (λ (u : View). with_record u d n (ws u)) same
 
 -- and of a record, by the words of before
-pub fresh-alters : (v v₁ v₂ : View) (d l n : ℕ) → n ≡ record_words v l → RecordPut v₁ v₂ d n (take n ((1 + 16 * n) ∷ get_or v₁.handles l 0 ∷ replicate 32 0)) → (n ≤ v.high - v.low → v₁ ≡ v)
+pub fresh-alters : (v v₁ v₂ : View) (d l n : ℕ) → n ≡ record_words v l → RecordPut v₁ v₂ d n ((1 + 16 * n) ∷ get_or v₁.handles l 0 ∷ replicate (n - 2) 0) → (n ≤ v.high - v.low → v₁ ≡ v)
     → record_words v l ≤ v.high - v.low → v.high ≤ 16384 → v₂ ≡ with_record v d (record_words v l) (header false 0 (record_words v l) ∷ handle_word v l ∷ replicate (record_words v l - 2) 0)
 fresh-alters v v₁ v₂ d l n e put same room small =
-    let c = min (get_or v.words (place_in v l + 1) 0) 32 in
-    let w = handle_word v l in
     let left : n ≤ v.high - v.low = omega (arith, e, room) in
-    let two : c ≡ 2 + c - 2 = omega arith in
-    record-alters v v₁ v₂ d n (λ u. take n ((1 + 16 * n) ∷ get_or u.handles l 0 ∷ replicate 32 0)) put (same left) (omega (arith, e)) left small
-    ∙ ap (λ (k : ℕ). with_record v d k (take k ((1 + 16 * k) ∷ w ∷ replicate 32 0))) e
-    ∙ ap (with_record v d (2 + c)) (front (1 + 16 * (2 + c)) w c (omega arith) ∙ ap {B = List ℕ} (λ (j : ℕ). (1 + 16 * (2 + c)) ∷ w ∷ replicate j 0) two)
+    record-alters v v₁ v₂ d n (λ u. (1 + 16 * n) ∷ get_or u.handles l 0 ∷ replicate (n - 2) 0) put (same left) (omega (arith, e)) left small
+    ∙ ap (λ (k : ℕ). with_record v d k ((1 + 16 * k) ∷ handle_word v l ∷ replicate (k - 2) 0)) e

@@ -18,9 +18,6 @@ const MAP_WORDS: u32 = 5;
 
 const LAYOUT_WORDS: u32 = 4;
 
-/// The most words that an object takes: a record of 32 fields.
-const MOST_WORDS: usize = 34;
-
 impl<M: Memory, S: Scheme> Heap<M, S> {
     /// Takes the garbage's words back for a new object, and tells the live words.
     fn reclaim(&mut self) -> u32
@@ -123,12 +120,17 @@ impl<M: Memory, S: Scheme> Heap<M, S> {
         check_handle(layout, 2)?;
         let size = self.record_size(self.space.handles[layout as usize], 2)?;
         self.make_room(size)?;
-        // An array and a size: the fields are zeros, and no length grows.
-        let mut words = [0; MOST_WORDS];
-        words[0] = header_of(Shape::Record, size);
-        words[1] = self.space.handles[layout as usize];
-        let word = self.put_innermost::<Records>(&words[..size as usize]);
-        self.space.handles[target as usize] = word;
+        let place = Records::take(&mut self.bounds, size);
+        let words = [
+            header_of(Shape::Record, size),
+            self.space.handles[layout as usize],
+        ];
+        self.put(place, &words);
+        // Free words are 0 at rest; but a heap may be taken up over any words, and a new record's fields are 0 there too.
+        self.space
+            .memory
+            .clear(place as usize + 2, place as usize + size as usize);
+        self.space.handles[target as usize] = Records::reference(place);
         Ok(())
     }
 }

@@ -1,5 +1,6 @@
-use Rattle.std.proofs.Common.{◌≡◌, ℕ, ◌+◌, ◌*◌, ◌≤◌, List, ◌∷◌, length, get_or, take, set, replicate, length-take, sym, refl, ap, ◌∙◌, ap₂, arith}
+use Rattle.std.proofs.Common.{◌≡◌, ℕ, suc, ◌+◌, ◌-◌, ◌*◌, List, [], ◌∷◌, get_or, set, replicate, sym, refl, ap, ◌∙◌, ap₂, arith}
 use Rattle.std.proofs.lemmas.Bool.{eqb-true, not-false}
+use Rattle.memory.specs.Ranges.{cleared}
 use Rattle.graph.specs.declared.Call.TheVariants.{Record}
 use Rattle.graph.specs.Graph.{held}
 use Rattle.graph.specs.Step.{position_of, kind_of, object_of, fresh_record}
@@ -8,7 +9,7 @@ use Rattle.space.specs.declared.Bounds.{Bounds}
 use Rattle.heap.specs.Views.{view, nothing}
 use Rattle.heap.proofs.Judging.{passed, all_pass, pass-first, next, stop}
 use Rattle.heap.proofs.Readings.{held-means}
-use Rattle.heap.proofs.Objects.{RecordPut, room-exits, fresh-alters, record-done, record-size}
+use Rattle.heap.proofs.Objects.{RecordPut, room-exits, fresh-alters, record-done, record-size, put-zeros}
 use Rattle.heap.proofs.Exits.{exits, ends}
 use Rattle.heap.proofs.Heap.record.Goals as goal
 
@@ -39,26 +40,33 @@ returns g c =
     let l = c.args.layout in
     let n = c.in_ok-size.size in
     let room = c.in_ok-make_room.ensures.rooms in
-    let put = c.put_innermost-word.ensures in
     let counted = c.in_ok-size.ensures.counted in
-    let small : n ≤ 34 = omega (arith, counted) in
     let v₁ = view {S = g.row.S.Denot} g.M.Memory.words c.make_room.new.self in
-    let long : length (take n (c.header_of.result ∷ get_or v₁.handles l 0 ∷ replicate 32 0)) ≡ n = length-take n (c.header_of.result ∷ get_or v₁.handles l 0 ∷ replicate 32 0) ∙ omega (arith, small) in
-    let placed : RecordPut v₁ _ c.args.target n (take n ((1 + 16 * n) ∷ get_or v₁.handles l 0 ∷ replicate 32 0)) =
+    let place : c.take-place.result ≡ v₁.low = c.take-place.ensures.place in
+    let fields : c.take-place.result + 2 ≡ suc (suc v₁.low) = omega (arith, place) in
+    let end : c.take-place.result + n ≡ c.take-place.result + 2 + (n - 2) = omega (arith, counted) in
+    let bounds = c.put.ensures.bounds ∙ c.take-place.ensures.bounds in
+    let placed : RecordPut v₁ _ c.args.target n ((1 + 16 * n) ∷ get_or v₁.handles l 0 ∷ replicate (n - 2) 0) =
     record {
-      memory = put.memory ∙ ap (λ (k : ℕ). putWords v₁.words v₁.low (take n (k ∷ get_or v₁.handles l 0 ∷ replicate 32 0))) (c.header_of.ensures (omega (arith, small)));
-      handles = λ k. ap₂ (λ (hs : List ℕ) (w : ℕ). set hs c.args.target w) put.handles (put.reference k);
-      low = λ k. let low = ap (λ (b : Bounds). b.low) put.bounds in omega (arith, low, long);
-      high = ap (λ (b : Bounds). b.high) put.bounds;
-      limit = ap (λ (b : Bounds). b.limit) put.bounds;
+      memory =
+          put-zeros (g.M.Memory.words c.put.new.self.space.memory) _ (c.take-place.result + 2) (n - 2) c.clear.ensures.length
+          (λ k. c.clear.ensures.words k ∙ ap (λ (e : ℕ). cleared (g.M.Memory.words c.put.new.self.space.memory) (c.take-place.result + 2) e k) end)
+          ∙ ap₂ (λ (ws : List ℕ) (p : ℕ). putWords ws p (replicate (n - 2) 0))
+          (c.put.ensures.memory ∙ ap₂ (λ (p h : ℕ). putWords v₁.words p (h ∷ get_or v₁.handles l 0 ∷ [])) place (c.header_of.ensures (omega (arith, counted))))
+          fields;
+      handles = λ k.
+          ap₂ (λ (hs : List ℕ) (w : ℕ). set hs c.args.target w) c.put.ensures.handles
+          (c.reference.ensures (omega (arith, place, k)) ∙ ap (λ (p : ℕ). p * 4 + 2) place);
+      low = λ k. let low = ap (λ (b : Bounds). b.low) bounds in omega (arith, low, counted);
+      high = ap (λ (b : Bounds). b.high) bounds;
+      limit = ap (λ (b : Bounds). b.limit) bounds;
     } in
-    ends _ _ (Record c.args.target l) _ _ _ (placed.limit ∙ room.limit) (put.scheme ∙ c.in_ok-make_room.ensures.scheme)
+    ends _ _ (Record c.args.target l) _ _ _ (placed.limit ∙ room.limit) (c.put.ensures.scheme ∙ c.in_ok-make_room.ensures.scheme)
     (λ k high. fresh-alters _ v₁ _ c.args.target l n counted placed room.roomy k high) λ gr s st.
     let sifted = c.in_ok-size.ensures.size gr s (held gr l) st (held-means _ _ gr s st l c.in_ok-check_handle-2.ensures.gives) in
     record-done _ _ gr s st _ _ room.limit (room.later gr s st) c.args.target l n c.in_ok-check_handle-2.ensures.gives
     (eqb-true (kind_of gr (held gr l)) 3 (not-false _ (pass-first (all_pass sifted))))
     sifted.gives
-    small
     (passed c.in_ok-check_handle.ensures (passed c.in_ok-check_handle-2.ensures (all_pass sifted)))
     (room.room gr s st)
     placed
