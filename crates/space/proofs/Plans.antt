@@ -361,7 +361,7 @@ module _ (m : Meaning) (W : ℕ) (g : Graph) (s k : List Bool) (kp : Keeps m W g
                     own = record { body = body_at q 1 e (omega arith) (size-two (object_at g q)); turn = rw (rank-at q 1 e (size-two (object_at g q))) (omega (arith, z)) };
                     layout = rw word1 (quiet q l 2 i e r dl cl (omega arith) two z);
                     map = rw word2 (quiet q n 1 i e r dn (ap is_record fm) (omega arith) one z);
-                    low = (omega (arith, word1, ends l dl, two, kp.limit), omega (arith, word2, ends n dn, one, kp.limit));
+                    low = (omega (arith, ends q e, size-two (object_at g q), kp.limit), omega (arith, word1, ends l dl, two, kp.limit), omega (arith, word2, ends n dn, one, kp.limit));
                     is =
                         ap (λ (w : ℕ). (plan W g s k rest).words (w + 1)) word2
                         ∙ word_at n 1 dn one

@@ -1,11 +1,10 @@
 // Which words of an object hold values, and so may refer to another object.
-ghost use Rattle.std.specs.Prelude.{◌≡◌, ℕ, ◌<◌};
+ghost use Rattle.std.specs.Prelude.{◌≡◌, ℕ, slice_index};
 ghost use Rattle.graph.specs.Places.{value_at};
-ghost use Rattle.space.specs.Weave.{view};
 ghost use Rattle.space.specs.Pass.{rule_at};
 ghost use Rattle.space.specs.Slots.{values_of, Reads};
 
-use crate::{Space, WORDS};
+use crate::Space;
 use codec::header::{Shape, shape_in};
 use codec::value::place_of;
 use memory::Memory;
@@ -40,21 +39,18 @@ impl Slots {
 }
 
 impl<M: Memory> Space<M> {
-    /// The rule of the record at the place, through its layout and map.
+    /// The rule of the record at the place, through its layout and map. All three are words of the memory.
     pub fn rule_of(&self, place: u32) -> u32
-        ensures { place < 16384 → result ≡ rule_at (view (M.Memory.words self.now.memory) self.now.handles) place }
+        ensures { result ≡ rule_at (slice_index (M.Memory.words self.now.memory)) place }
     {
-        if place >= WORDS {
-            return 0;
-        }
-        let layout = self.look(place + 1);
-        let map = self.look(place_of(layout) + 2);
-        self.look(place_of(map) + 1)
+        let layout = self.memory.read(place as usize + 1);
+        let map = self.memory.read(place_of(layout) as usize + 2);
+        self.memory.read(place_of(map) as usize + 1)
     }
 
     /// Which words of the object at the place hold values; it has that header. Bits that are no kind's are read as a map's.
     pub fn slots_of<S: Scheme>(&self, scheme: &S, place: u32, header: u32) -> Slots
-        ensures { Reads (S.Scheme.meaning scheme.now) (view (M.Memory.words self.now.memory) self.now.handles) place header result }
+        ensures { Reads (S.Scheme.meaning scheme.now) (M.Memory.words self.now.memory) place header result }
     {
         match shape_in(header) {
             Some(Shape::Record) => Slots::of_record(scheme, self.rule_of(place)),
