@@ -1,6 +1,8 @@
 // Tables for the ground: both memories, both schemes, and the words of values, headers and links at their edges.
 #![tactic(auto)]
 
+ghost use Rattle.scheme.specs.Meaning.{mask};
+
 #[cfg(test)]
 mod tests {
     use codec::header::Shape;
@@ -173,6 +175,42 @@ mod tests {
         assert_eq!(rt;
             asked(&Mask, u32::MAX),
             (true, [true, true, true, false], [0, 31, 32, 0])
+        );
+    }
+
+    // MASK once more, with the three answers alone that a scheme must give.
+    struct Three;
+
+    impl Scheme for Three {
+        ghost meaning = { λ _. mask };
+
+        fn admits(&self, rule: u32) -> bool {
+            Mask.admits(rule)
+        }
+
+        fn is_raw(&self, rule: u32, field: u32) -> bool {
+            Mask.is_raw(rule, field)
+        }
+
+        fn raw_count(&self, rule: u32, n: u32) -> u32 {
+            Mask.raw_count(rule, n)
+        }
+    }
+
+    // All fields in one answer: bit i is field i.
+    #[test]
+    fn fields_at_once(rt: HostRuntime) {
+        assert_eq!(rt;
+            [0, 1, 3, 31, 32, 33, u32::MAX].map(|rule| Prefix.raw_fields(rule)),
+            [0, 1, 7, 0x7FFF_FFFF, u32::MAX, 0, 0]
+        );
+        assert_eq!(rt;
+            [0, 5, 1 << 31, u32::MAX].map(|rule| Mask.raw_fields(rule)),
+            [0, 5, 1 << 31, u32::MAX]
+        );
+        assert_eq!(rt;
+            [0, 5, 1 << 31, u32::MAX].map(|rule| Three.raw_fields(rule)),
+            [0, 5, 1 << 31, u32::MAX]
         );
     }
 

@@ -29,6 +29,7 @@ impl Pending {
     }
 
     // Marks what the object at a place names.
+    #[inline(always)]
     fn scan<M: Memory, S: Scheme>(&mut self, space: &mut Space<M>, scheme: &S, place: u32)
         ensures scanned { Scanned (S.Scheme.meaning scheme.now) (M.Memory.words space.old.memory) space.old.handles self.old place (M.Memory.words space.new.memory) space.new.handles self.new }
         ensures kept { KeptIn M.Memory.words space.old space.new }

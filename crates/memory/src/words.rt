@@ -20,6 +20,7 @@ impl Memory for &mut [u32] {
     }
 
     // This and `clear` at once: the trait's own bodies go word by word.
+    #[inline(always)]
     fn shift(&mut self, from: usize, to: usize, size: usize) {
         let len = self.len();
         if size <= len && from <= len - size && to <= len - size {

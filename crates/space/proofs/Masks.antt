@@ -53,8 +53,10 @@ bits-of m r raw j fits all =
   where
     low : (j : ℕ) (b : Bool) → j < 2 → (leb 0 j && ltb j 1) ≡ (eqb j 0 || (leb 2 j && b))
     low j b l = grind (arith, nat_tests)
+
     high : (j : ℕ) (b : Bool) → 2 ≤ j → b ≡ (eqb j 0 || (leb 2 j && b))
     high j b l = grind (arith, nat_tests)
+
     field : (k : ℕ) → eqb (bit_at raw k) 1 ≡ is_raw m r k
     field k =
         elim (cases_lt k 32) [
@@ -81,6 +83,7 @@ record-bits m r raw fits all i =
   where
     within : (i : ℕ) (b : Bool) → not (eqb i 0 || (leb 2 i && b)) ≡ (eqb i 1 || (leb 2 i && not b))
     within i b = grind (arith, nat_tests)
+
     past : (i : ℕ) (b c : Bool) → 64 ≤ i → b ≡ false → c ≡ false → not (eqb 63 0 || (leb 2 63 && b)) ≡ (eqb i 1 || (leb 2 i && not c))
     past i b c l e f = grind (arith, nat_tests)
 

@@ -19,6 +19,7 @@ fn tag_before<M: Memory>(space: &Space<M>, cursor: u32) -> u32
 impl Side for Classes {
     ghost upward = { false };
 
+    #[inline(always)]
     fn read<M: Memory>(space: &Space<M>, cursor: u32) -> Object {
         let size = tag_before(space, cursor);
         let place = cursor.saturating_sub(size);
@@ -29,6 +30,7 @@ impl Side for Classes {
         }
     }
 
+    #[inline(always)]
     fn meet<M: Memory>(space: &mut Space<M>, cursor: u32, to: u32) -> Object {
         let size = tag_before(space, cursor);
         let place = cursor.saturating_sub(size);

@@ -10,6 +10,7 @@ use memory::Memory;
 
 impl<M: Memory> Space<M> {
     // A marked object, whose list is taken off: it is moved and unmarked.
+    #[inline(always)]
     fn close_object(&mut self, object: Object, new_place: u32)
         ensures closed { Closed (M.Memory.words self.old.memory) self.old.handles object.place new_place object.size object.header (M.Memory.words self.new.memory) self.new.handles }
         ensures kept { KeptIn M.Memory.words self.old self.new }

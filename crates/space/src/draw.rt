@@ -13,6 +13,7 @@ use scheme::Scheme;
 
 impl<M: Memory> Space<M> {
     // Threads each reference of the object at the place, lowest first.
+    #[inline(always)]
     fn thread_words(&mut self, place: u32, size: u32, slots: Slots)
         requires { place + size ≤ 16384 }
         ensures threaded { ThreadedWords (values_of slots) (M.Memory.words self.old.memory) self.old.handles place size (M.Memory.words self.new.memory) self.new.handles }
@@ -43,6 +44,7 @@ impl<M: Memory> Space<M> {
     }
 
     // A marked object, whose list is taken off: its references are threaded.
+    #[inline(always)]
     fn visit<S: Scheme>(&mut self, scheme: &S, object: Object)
         ensures visited { Visited (S.Scheme.meaning scheme.now) (M.Memory.words self.old.memory) self.old.handles object.place object.size (object.header / 4 % 4) (M.Memory.words self.new.memory) self.new.handles }
         ensures kept { KeptIn M.Memory.words self.old self.new }

@@ -23,10 +23,12 @@ fn record(place: u32, header: u32) -> Object
 impl Side for Records {
     ghost upward = { true };
 
+    #[inline(always)]
     fn read<M: Memory>(space: &Space<M>, cursor: u32) -> Object {
         record(cursor, space.header_of(cursor))
     }
 
+    #[inline(always)]
     fn meet<M: Memory>(space: &mut Space<M>, cursor: u32, to: u32) -> Object {
         record(cursor, space.unthread(cursor, to_record(to)))
     }

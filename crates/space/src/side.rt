@@ -65,6 +65,7 @@ fn within<T: Side>(object: Object, cursor: u32, end: u32) -> Option<Object>
 
 impl<M: Memory> Space<M> {
     /// The object that the cursor has come to on its way to the end, if one lies there.
+    #[inline(always)]
     pub fn object_at<T: Side>(&self, cursor: u32, end: u32) -> Option<Object>
         ensures { Met T.Side.upward (M.Memory.words self.now.memory) self.now.handles cursor end result }
     {
@@ -75,6 +76,7 @@ impl<M: Memory> Space<M> {
     }
 
     // The same, its list taken off: its slots refer to where the object is to lie.
+    #[inline(always)]
     pub(crate) fn object_met<T: Side>(&mut self, cursor: u32, to: u32, end: u32) -> Option<Object>
         ensures met { Met T.Side.upward (M.Memory.words self.old.memory) self.old.handles cursor end result }
         ensures paid { PaidFor T.Side.upward (M.Memory.words self.old.memory) self.old.handles cursor end to (M.Memory.words self.new.memory) self.new.handles result }

@@ -8,6 +8,7 @@ use memory::Memory;
 
 impl<M: Memory> Space<M> {
     // Moves the words of an object, if it is to lie elsewhere, and within the heap's words.
+    #[inline(always)]
     pub(crate) fn slide(&mut self, from: u32, to: u32, size: u32)
         ensures moved { Moved (M.Memory.words self.old.memory) self.old.handles from to size (M.Memory.words self.new.memory) self.new.handles }
         ensures kept { KeptIn M.Memory.words self.old self.new }
