@@ -59,11 +59,11 @@ typedef struct {
     int packs; /* or leaves the words as they were */
 } collector;
 
-enum { VERIFIED, STEPS, PLAIN, ONCE, LISP2, MARK, PLAIN_MARK, COLLECTORS };
+enum { VERIFIED, STEPS, PLAIN, ONCE, TESTED, LISP2, MARK, PLAIN_MARK, COLLECTORS };
 
 static const collector collectors[COLLECTORS] = {
     { "verified", fusuma_collect, 1 },   { "steps", library_steps, 1 }, { "plain", plain_collect, 1 },        { "once", plain_collect_once, 1 },
-    { "lisp2", lisp2, 1 },               { "mark", library_mark, 0 },   { "plain-mark", plain_mark, 0 },
+    { "tested", tested_collect, 1 },     { "lisp2", lisp2, 1 },         { "mark", library_mark, 0 },          { "plain-mark", plain_mark, 0 },
 };
 
 /* Lists of one call. The heap that they are given to has a map in handle 0, a layout of four fields in 1, of which the first is raw, records of it in 2 to 9,
@@ -450,10 +450,10 @@ static void print_whole(double x)
 
 static void print_heaps(void (*measure)(plan, const heap *, double *), const char *unit, double scale, int decimals)
 {
-    static const int columns[COLLECTORS] = { VERIFIED, STEPS, PLAIN, ONCE, LISP2, MARK, PLAIN_MARK };
-    printf("| shape | scheme | words | live %% | scans | verified | verified, by steps | plain | plain, lists once | Lisp2 | verified ÷ plain | verified ÷ "
-           "Lisp2 | marking verified | marking plain | ÷ |\n");
-    printf("|---|---|--:|--:|--:|--:|--:|--:|--:|--:|--:|--:|--:|--:|--:|\n");
+    static const int columns[COLLECTORS] = { VERIFIED, STEPS, PLAIN, ONCE, TESTED, LISP2, MARK, PLAIN_MARK };
+    printf("| shape | scheme | words | live %% | scans | verified | verified, by steps | plain | plain, lists once | plain, tested | Lisp2 | verified ÷ plain | "
+           "verified ÷ tested | verified ÷ Lisp2 | marking verified | marking plain | ÷ |\n");
+    printf("|---|---|--:|--:|--:|--:|--:|--:|--:|--:|--:|--:|--:|--:|--:|--:|--:|\n");
     for (int i = 0; i < PLANS; i++) {
         plan p = plan_number(i);
         heap h = build(p);
@@ -467,7 +467,7 @@ static void print_heaps(void (*measure)(plan, const heap *, double *), const cha
         printf(" | %.0f | %u", 100.0 * (double)live / p.length, scans);
         for (int c = 0; c < COLLECTORS; c++) {
             if (c == MARK)
-                printf(" | %.2f | %.2f", taken[VERIFIED] / taken[PLAIN], taken[VERIFIED] / taken[LISP2]);
+                printf(" | %.2f | %.2f | %.2f", taken[VERIFIED] / taken[PLAIN], taken[VERIFIED] / taken[TESTED], taken[VERIFIED] / taken[LISP2]);
             printf(" | ");
             if (decimals > 0)
                 printf("%.*f", decimals, taken[columns[c]] / scale);
@@ -477,8 +477,8 @@ static void print_heaps(void (*measure)(plan, const heap *, double *), const cha
         printf(" | %.2f |\n", taken[MARK] / taken[PLAIN_MARK]);
     }
     printf("\nEach figure is %s. The heaps are full; live %% is the share of live words. Scans are those that marking needs because its 64 pending places ran "
-           "out. Plain follows a list to its header and then renews it; \"lists once\" takes the tag from the side and follows it once. Lisp2 has a table "
-           "beside the heap of as many words. Marking is begin and give up.\n",
+           "out. Plain follows a list to its header and then renews it; \"lists once\" takes the tag from the side and follows it once; \"tested\" is plain "
+           "with a test of each place and size, safe on any content. Lisp2 has a table beside the heap of as many words. Marking is begin and give up.\n",
            unit);
 }
 

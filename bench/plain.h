@@ -19,6 +19,9 @@ int64_t plain_give_up(uint32_t *words, size_t length, fusuma_state *state);
 /* The same collection with each list followed only once: what a list's header would tell, its tag, the side tells too. */
 int64_t plain_collect_once(uint32_t *words, size_t length, fusuma_state *state);
 
+/* The same collection as that of plain_collect, safe on any content: each place and each size is tested before it is used. */
+int64_t tested_collect(uint32_t *words, size_t length, fusuma_state *state);
+
 /* A collection with a table beside the heap, as many words as the heap has, in place of threading. Its marking is that of plain_begin. */
 int64_t lisp2_collect(uint32_t *words, size_t length, fusuma_state *state, uint32_t *table);
 
