@@ -28,21 +28,23 @@ impl Pending {
         }
     }
 
-    // Marks what the object at a place names.
+    // Marks what the object at a place names, which has that header.
     #[inline(always)]
-    fn scan<M: Memory, S: Scheme>(&mut self, space: &mut Space<M>, scheme: &S, place: u32)
-        ensures scanned { Scanned (S.Scheme.meaning scheme.now) (M.Memory.words space.old.memory) space.old.handles self.old place (M.Memory.words space.new.memory) space.new.handles self.new }
+    fn scan<M: Memory, S: Scheme>(
+        &mut self,
+        space: &mut Space<M>,
+        scheme: &S,
+        place: u32,
+        header: u32,
+    )
+        ensures scanned { Scanned (S.Scheme.meaning scheme.now) (M.Memory.words space.old.memory) space.old.handles self.old place header (M.Memory.words space.new.memory) space.new.handles self.new }
         ensures kept { KeptIn M.Memory.words space.old space.new }
     {
-        if place >= WORDS {
-            return;
-        }
-        let header = space.look(place);
         let slots = space.slots_of(scheme, place, header);
         // By number: each word is read from a space that marking alters.
         for i in 1..size_in(header).min(MOST_WORDS) {
             if slots.is_value(i) {
-                let word = space.memory.read((place + i) as usize);
+                let word = space.memory.read(place as usize + i as usize);
                 if refers(word) {
                     self.mark_at(space, place_of(word));
                 }
@@ -60,7 +62,8 @@ impl Pending {
             let Some(place) = self.places.pop() else {
                 break;
             };
-            self.scan(space, scheme, place);
+            let header = space.memory.read(place as usize);
+            self.scan(space, scheme, place, header);
         }
     }
 
@@ -82,7 +85,7 @@ impl Pending {
                 break;
             };
             if is_marked(object.header) {
-                self.scan(space, scheme, object.place);
+                self.scan(space, scheme, object.place, object.header);
                 self.drain(space, scheme);
             }
             cursor = T::next(cursor, object.size);

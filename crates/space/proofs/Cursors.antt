@@ -1,8 +1,8 @@
 -- A cursor on its way over a side, and the new place that goes with it.
-use Rattle.std.proofs.Common.{◌≡◌, ℕ, zero, suc, ◌+◌, ◌-◌, ◌<◌, ◌≤◌, Bool, true, false, ◌⊎◌, List, sym, refl, ap, ◌∙◌, subst, inl, inr, arith}
+use Rattle.std.proofs.Common.{◌≡◌, ℕ, zero, suc, ◌+◌, ◌-◌, ◌<◌, ◌≤◌, Bool, true, false, ◌⊎◌, sym, refl, ap, ◌∙◌, subst, inl, inr, arith}
 use Rattle.std.proofs.lemmas.Bool.{cases_eq}
 use Rattle.scheme.specs.Meaning.{Meaning}
-use Rattle.space.specs.Pass.{Sized, Stops, Plan, Step, Course, next_by, gap_by}
+use Rattle.space.specs.Pass.{Stops, Plan, Step, Course, next_by, gap_by}
 
 pub closer : (b : Bool) (t c d size end : ℕ) → d ≡ next_by b c size → size ≤ gap_by b c end → 1 < size → t + gap_by b c end ≤ 16384 → t + 1 + gap_by b d end ≤ 16384
 closer true t c d size end x y z w = omega arith
@@ -147,9 +147,9 @@ module _ {m : Meaning} {P : Plan} {up : Bool} (C : Course m P up) where
           }
 
   -- a cursor stops at the end alone, where the sizes that it reads are those of the objects
-  pub stop-at-end : (ws hs : List ℕ) (q c t end : ℕ) (f : end ≡ C.old C.many) (k : Cursor q c t) → ((ne : c ≡ end → ⊥) (size : ℕ) → Sized up ws hs c size → size ≡ C.size (next q c t end f k ne).at) →
-      Stops up ws hs c end → c ≡ end
-  stop-at-end ws hs q c t end f k reads stops =
+  pub stop-at-end : (is_size : ℕ → Type 0) (q c t end : ℕ) (f : end ≡ C.old C.many) (k : Cursor q c t) → ((ne : c ≡ end → ⊥) (size : ℕ) → is_size size → size ≡ C.size (next q c t end f k ne).at) →
+      Stops up is_size c end → c ≡ end
+  stop-at-end is_size q c t end f k reads stops =
       elim (cases_eq c end) [
         | inl z ↦ z
         | inr ne ↦

@@ -1,9 +1,24 @@
 -- The objects that a walk over a side meets.
-use Rattle.std.specs.Prelude.{◌≡◌, ℕ, ◌%◌, Bool, List, Option, MatchOption}
+use Rattle.std.specs.Prelude.{◌≡◌, ℕ, ◌%◌, Bool, List, Option, MatchOption, slice_index}
 use Rattle.space.specs.Weave.{view, Heads, Unthreaded}
-use Rattle.space.specs.Pass.{Sized, Comes, Stops, place_by}
+use Rattle.space.specs.Pass.{Sized, size_seen, Comes, Stops, place_by}
 use Rattle.space.specs.declared.side.Object.{Object}
 
+-- Where nothing is threaded: the object is as its header and its boundary tag say.
+pub record Seen (up : Bool) (ws : List ℕ) (c : ℕ) (o : Object) : Type 0 where
+  pub sized : o.size ≡ size_seen up ws c
+  pub place : o.place ≡ place_by up c o.size
+  pub header : o.header ≡ slice_index ws o.place
+
+-- the cursor has come to that object on its way to the end
+pub record SeesOne (up : Bool) (ws : List ℕ) (c end : ℕ) (o : Object) : Type 0 where
+  pub comes : Comes up (λ r. r ≡ size_seen up ws c) c end o.size
+  pub seen : Seen up ws c o
+
+abbrev pub Sees : Bool → List ℕ → ℕ → ℕ → Option Object → Type 0
+Sees up ws c end o = MatchOption o (Stops up (λ r. r ≡ size_seen up ws c) c end) (SeesOne up ws c end)
+
+-- Where references are threaded: the header stands at the end of the object's list.
 -- the object whose size the cursor reads: where it lies by that size, and its header
 pub record Read (up : Bool) (ws hs : List ℕ) (c : ℕ) (o : Object) : Type 0 where
   pub sized : Sized up ws hs c o.size
@@ -22,8 +37,8 @@ PaidFor up ws hs c end t vs gs o =
 
 -- the cursor has come to that object on its way to the end
 pub record MeetsOne (up : Bool) (ws hs : List ℕ) (c end : ℕ) (o : Object) : Type 0 where
-  pub comes : Comes up ws hs c end o.size
+  pub comes : Comes up (Sized up ws hs c) c end o.size
   pub read : Read up ws hs c o
 
 abbrev pub Met : Bool → List ℕ → List ℕ → ℕ → ℕ → Option Object → Type 0
-Met up ws hs c end o = MatchOption o (Stops up ws hs c end) (MeetsOne up ws hs c end)
+Met up ws hs c end o = MatchOption o (Stops up (Sized up ws hs c) c end) (MeetsOne up ws hs c end)

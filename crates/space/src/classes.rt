@@ -1,6 +1,5 @@
 // The classes' side.
-ghost use Rattle.std.specs.Prelude.{◌≡◌, ◌-◌, Bool, false};
-ghost use Rattle.space.specs.Weave.{view};
+ghost use Rattle.std.specs.Prelude.{Bool, false};
 
 use crate::{Bounds, Object, Side, Space};
 use codec::value::to_class;
@@ -9,30 +8,23 @@ use memory::Memory;
 /// Classes: by their boundary tags, from the right.
 pub struct Classes;
 
-// The boundary tag that ends at the cursor.
-fn tag_before<M: Memory>(space: &Space<M>, cursor: u32) -> u32
-    ensures { result ≡ view (M.Memory.words space.now.memory) space.now.handles (cursor - 1) }
-{
-    space.look(cursor.saturating_sub(1))
-}
-
 impl Side for Classes {
     ghost upward = { false };
 
     #[inline(always)]
-    fn read<M: Memory>(space: &Space<M>, cursor: u32) -> Object {
-        let size = tag_before(space, cursor);
+    fn see<M: Memory>(memory: &M, cursor: u32) -> Object {
+        let size = memory.read(cursor.saturating_sub(1) as usize);
         let place = cursor.saturating_sub(size);
         Object {
             place,
             size,
-            header: space.header_of(place),
+            header: memory.read(place as usize),
         }
     }
 
     #[inline(always)]
     fn meet<M: Memory>(space: &mut Space<M>, cursor: u32, to: u32) -> Object {
-        let size = tag_before(space, cursor);
+        let size = space.look(cursor.saturating_sub(1));
         let place = cursor.saturating_sub(size);
         Object {
             place,

@@ -24,8 +24,8 @@ impl Side for Records {
     ghost upward = { true };
 
     #[inline(always)]
-    fn read<M: Memory>(space: &Space<M>, cursor: u32) -> Object {
-        record(cursor, space.header_of(cursor))
+    fn see<M: Memory>(memory: &M, cursor: u32) -> Object {
+        record(cursor, memory.read(cursor as usize))
     }
 
     #[inline(always)]

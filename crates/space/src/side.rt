@@ -3,7 +3,7 @@ ghost use Rattle.std.specs.Prelude.{◌≡◌, ◌+◌, ◌*◌, ◌^◌, ◌<�
 ghost use Rattle.space.specs.Ends.{innermost, taken, tag_by};
 ghost use Rattle.space.specs.Pass.{place_by, next_by, gap_by};
 ghost use Rattle.space.specs.Keeping.{KeptIn};
-ghost use Rattle.space.specs.Met.{Read, Met, Paid, PaidFor};
+ghost use Rattle.space.specs.Met.{Seen, Sees, Read, Met, Paid, PaidFor};
 
 use crate::{Bounds, Space};
 use memory::Memory;
@@ -21,11 +21,12 @@ pub struct Object {
 pub trait Side {
     ghost upward: { Bool };
 
-    // The object that the cursor has come to, whose list is followed for its header.
-    fn read<M: Memory>(space: &Space<M>, cursor: u32) -> Object
-        ensures { Read upward (M.Memory.words space.now.memory) space.now.handles cursor result };
+    // The object that the cursor has come to, where nothing is threaded.
+    fn see<M: Memory>(memory: &M, cursor: u32) -> Object
+        ensures { Seen upward (M.Memory.words memory.now) cursor result };
 
-    // The same, and each slot of the list gets the reference to where the object is to lie: where `to` is the new cursor.
+    // The same where references are threaded: the list of the object is followed to its header, and each slot of it gets the reference to where the object is
+    // to lie, `to` being the new cursor.
     fn meet<M: Memory>(space: &mut Space<M>, cursor: u32, to: u32) -> Object
         ensures read { Read upward (M.Memory.words space.old.memory) space.old.handles cursor result }
         ensures paid { Paid upward (M.Memory.words space.old.memory) space.old.handles result.place (place_by upward to result.size) (M.Memory.words space.new.memory) space.new.handles }
@@ -64,18 +65,18 @@ fn within<T: Side>(object: Object, cursor: u32, end: u32) -> Option<Object>
 }
 
 impl<M: Memory> Space<M> {
-    /// The object that the cursor has come to on its way to the end, if one lies there.
+    /// The object that the cursor has come to on its way to the end, if one lies there. Nothing may be threaded.
     #[inline(always)]
     pub fn object_at<T: Side>(&self, cursor: u32, end: u32) -> Option<Object>
-        ensures { Met T.Side.upward (M.Memory.words self.now.memory) self.now.handles cursor end result }
+        ensures { Sees T.Side.upward (M.Memory.words self.now.memory) cursor end result }
     {
         if cursor == end {
             return None;
         }
-        within::<T>(T::read(self, cursor), cursor, end)
+        within::<T>(T::see(&self.memory, cursor), cursor, end)
     }
 
-    // The same, its list taken off: its slots refer to where the object is to lie.
+    // The same where references are threaded. The list of the object is taken off: its slots refer to where it is to lie.
     #[inline(always)]
     pub(crate) fn object_met<T: Side>(&mut self, cursor: u32, to: u32, end: u32) -> Option<Object>
         ensures met { Met T.Side.upward (M.Memory.words self.old.memory) self.old.handles cursor end result }

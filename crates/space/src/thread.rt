@@ -10,21 +10,6 @@ use codec::value::place_of;
 use memory::Memory;
 
 impl<M: Memory> Space<M> {
-    // The header at the end of the list that begins at the header's place.
-    pub(crate) fn header_of(&self, place: u32) -> u32
-        ensures { Heads (M.Memory.words self.now.memory) self.now.handles place result }
-    {
-        let mut word = self.look(place);
-        // Turns are counted, since in wild words a list need not end: a `while` would have no measure.
-        for turn in 0..ADDRESSES {
-            if ends_list(word) {
-                break;
-            }
-            word = self.look(address_of(word));
-        }
-        word
-    }
-
     // Threads the reference in the slot, which is that word.
     pub(crate) fn thread(&mut self, slot: u32, word: u32)
         ensures woven { word ≡ view (M.Memory.words self.old.memory) self.old.handles slot → Threaded (M.Memory.words self.old.memory) self.old.handles slot (M.Memory.words self.new.memory) self.new.handles }

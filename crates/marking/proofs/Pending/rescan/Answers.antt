@@ -1,7 +1,8 @@
-use Rattle.std.proofs.Common.{ℕ, ◌%◌, sym, ap, ◌∙◌, inl, inr}
+use Rattle.std.proofs.Common.{◌≡◌, ◌%◌, sym, ◌∙◌, inl, inr}
 use Rattle.std.proofs.lemmas.Bool.{eqb-true, eqb-false}
+use Rattle.space.specs.Weave.{view}
 use Rattle.space.proofs.Wovens.{kept_then}
-use Rattle.marking.proofs.Walks.{walk-stop, size-read, place-small, walk_start, walk-scan, walk-skip, walk_end}
+use Rattle.marking.proofs.Walks.{walk-stop, size-read, header-seen, place-small, walk_start, walk-scan, walk-skip, walk_end}
 use Rattle.marking.proofs.Pending.rescan.Goals as goal
 use Rattle.marking.proofs.Pending.rescan.Goals.{then-is_marked, else-is_marked}
 
@@ -19,9 +20,10 @@ loop-turn-preserved g c =
                 let k = inv.1 P limit so C all roots rounds e f st in
                 let e1 = e ∙ sym inv.0.length in
                 let sz = size-read _ P limit so up C all k.to _ _ c.args.end f k.cursor c.in-Some.ensures.comes.apart ws hs k.going.is c.in-Some.object.size c.in-Some.ensures.comes.sized in
+                let seen : view ws hs c.in-Some.object.place % 2 ≡ 1 → c.in-Some.object.header ≡ view ws hs c.in-Some.object.place = λ _. header-seen _ P limit so up C all k.to _ _ c.args.end f k.cursor c.in-Some.ensures.comes.apart ws hs c.in-Some.object.size c.in-Some.object.place c.in-Some.object.header sz c.in-Some.ensures.seen.place c.in-Some.ensures.seen.header in
                 let small = place-small _ P limit so up C all k.to _ _ c.args.end f k.cursor c.in-Some.ensures.comes.apart c.in-Some.object.size sz in
-                walk-scan _ P limit so up C all roots rounds ws hs e1 _ _ c.args.end f _ k c.in-Some.ensures.comes.apart c.in-Some.object.size c.in-Some.object.place _ sz c.in-Some.ensures.read.place (c.next-cursor.ensures small)
-                c.in-Some.object.header c.in-Some.ensures.read.header.plain (eqb-true _ 3 (sym c.is_marked.ensures ∙ w.if-is_marked.true)) _ _ _ _ _ _ w.scan.ensures.kept w.scan.ensures.scanned w.drain.ensures.drained,
+                walk-scan _ P limit so up C all roots rounds ws hs e1 _ _ c.args.end f _ k c.in-Some.ensures.comes.apart c.in-Some.object.size c.in-Some.object.place _ sz c.in-Some.ensures.seen.place (c.next-cursor.ensures small)
+                c.in-Some.object.header seen (eqb-true _ 3 (sym c.is_marked.ensures ∙ w.if-is_marked.true)) _ _ _ _ _ _ w.scan.ensures.kept w.scan.ensures.scanned w.drain.ensures.drained,
           )
       | else-is_marked w ↦
           rw (w.self-is, w.space-is) (
@@ -30,9 +32,10 @@ loop-turn-preserved g c =
                 let k = inv.1 P limit so C all roots rounds e f st in
                 let e1 = e ∙ sym inv.0.length in
                 let sz = size-read _ P limit so up C all k.to _ _ c.args.end f k.cursor c.in-Some.ensures.comes.apart ws hs k.going.is c.in-Some.object.size c.in-Some.ensures.comes.sized in
+                let seen : view ws hs c.in-Some.object.place % 2 ≡ 1 → c.in-Some.object.header ≡ view ws hs c.in-Some.object.place = λ _. header-seen _ P limit so up C all k.to _ _ c.args.end f k.cursor c.in-Some.ensures.comes.apart ws hs c.in-Some.object.size c.in-Some.object.place c.in-Some.object.header sz c.in-Some.ensures.seen.place c.in-Some.ensures.seen.header in
                 let small = place-small _ P limit so up C all k.to _ _ c.args.end f k.cursor c.in-Some.ensures.comes.apart c.in-Some.object.size sz in
-                walk-skip _ P limit so up C all roots rounds ws hs e1 _ _ c.args.end f _ k c.in-Some.ensures.comes.apart c.in-Some.object.size c.in-Some.object.place _ sz c.in-Some.ensures.read.place (c.next-cursor.ensures small)
-                c.in-Some.object.header c.in-Some.ensures.read.header.plain (eqb-false _ 3 (sym c.is_marked.ensures ∙ w.if-is_marked.false)),
+                walk-skip _ P limit so up C all roots rounds ws hs e1 _ _ c.args.end f _ k c.in-Some.ensures.comes.apart c.in-Some.object.size c.in-Some.object.place _ sz c.in-Some.ensures.seen.place (c.next-cursor.ensures small)
+                c.in-Some.object.header seen (eqb-false _ 3 (sym c.is_marked.ensures ∙ w.if-is_marked.false)),
           )
     ]
 

@@ -12,6 +12,6 @@ invariant-loop-i g l =
     let hs = l.initial.space.handles in
     let vs = g.M.Memory.words l.space.memory in
     Kept ws hs vs l.space.handles
-    × ((P : Plan) (limit roots : ℕ) (todo : ℕ → Bool) (turns rounds : ℕ) → Standing (g.S.Scheme.meaning l.scheme) P limit → P.n ≡ length ws → marked P (view ws hs) l.place ≡ true →
+    × ((P : Plan) (limit roots : ℕ) (todo : ℕ → Bool) (turns rounds : ℕ) → Standing (g.S.Scheme.meaning l.scheme) P limit → P.n ≡ length ws → marked P (view ws hs) l.place ≡ true → l.header ≡ view ws hs l.place →
     Going P limit (stage roots (also P l.place todo) turns rounds) (view ws hs) l.initial.self →
     Going P limit (stage roots (onward P l.i l.place todo) turns rounds) (view vs l.space.handles) l.self)

@@ -1,7 +1,8 @@
-use Rattle.std.proofs.Common.{ℕ, ◌%◌, sym, ap, ◌∙◌, inl, inr}
+use Rattle.std.proofs.Common.{◌≡◌, ◌%◌, sym, ◌∙◌, inl, inr}
 use Rattle.std.proofs.lemmas.Bool.{eqb-true, eqb-false}
+use Rattle.space.specs.Weave.{view}
 use Rattle.space.proofs.Wovens.{kept_then}
-use Rattle.marking.proofs.Walks.{walk-stop, size-read, place-small}
+use Rattle.marking.proofs.Walks.{walk-stop, size-read, header-seen, place-small}
 use Rattle.marking.proofs.Steps.{unmarked-word}
 use Rattle.marking.proofs.Fades.{clear-start, clear-off, clear-skip, clear-end}
 use Rattle.marking.proofs.unmark.unmark_side.Goals as goal
@@ -22,9 +23,10 @@ loop-turn-preserved g c =
                 let k = inv.1 m P limit so C all e f st in
                 let e1 = e ∙ sym inv.0.length in
                 let sz = size-read m P limit so up C all k.to _ _ c.args.end f k.cursor c.in-Some.ensures.comes.apart ws hs k.fading.is c.in-Some.object.size c.in-Some.ensures.comes.sized in
+                let seen : view ws hs c.in-Some.object.place % 2 ≡ 1 → c.in-Some.object.header ≡ view ws hs c.in-Some.object.place = λ _. header-seen m P limit so up C all k.to _ _ c.args.end f k.cursor c.in-Some.ensures.comes.apart ws hs c.in-Some.object.size c.in-Some.object.place c.in-Some.object.header sz c.in-Some.ensures.seen.place c.in-Some.ensures.seen.header in
                 let small = place-small m P limit so up C all k.to _ _ c.args.end f k.cursor c.in-Some.ensures.comes.apart c.in-Some.object.size sz in
-                clear-off m P limit so up C all ws hs e1 _ _ c.args.end f k c.in-Some.ensures.comes.apart c.in-Some.object.size c.in-Some.object.place _ sz c.in-Some.ensures.read.place (c.next-cursor.ensures small)
-                _ _ c.in-Some.object.header _ c.in-Some.ensures.read.header.plain bits (unmarked-word c.in-Some.object.header _ bits w.unmarked.ensures) w.store.ensures,
+                clear-off m P limit so up C all ws hs e1 _ _ c.args.end f k c.in-Some.ensures.comes.apart c.in-Some.object.size c.in-Some.object.place _ sz c.in-Some.ensures.seen.place (c.next-cursor.ensures small)
+                _ _ c.in-Some.object.header _ seen bits (unmarked-word c.in-Some.object.header _ bits w.unmarked.ensures) w.store.ensures,
           )
       | else-is_marked w ↦
           rw w.space-is (
@@ -33,9 +35,10 @@ loop-turn-preserved g c =
                 let k = inv.1 m P limit so C all e f st in
                 let e1 = e ∙ sym inv.0.length in
                 let sz = size-read m P limit so up C all k.to _ _ c.args.end f k.cursor c.in-Some.ensures.comes.apart ws hs k.fading.is c.in-Some.object.size c.in-Some.ensures.comes.sized in
+                let seen : view ws hs c.in-Some.object.place % 2 ≡ 1 → c.in-Some.object.header ≡ view ws hs c.in-Some.object.place = λ _. header-seen m P limit so up C all k.to _ _ c.args.end f k.cursor c.in-Some.ensures.comes.apart ws hs c.in-Some.object.size c.in-Some.object.place c.in-Some.object.header sz c.in-Some.ensures.seen.place c.in-Some.ensures.seen.header in
                 let small = place-small m P limit so up C all k.to _ _ c.args.end f k.cursor c.in-Some.ensures.comes.apart c.in-Some.object.size sz in
-                clear-skip m P limit so up C all ws hs e1 _ _ c.args.end f k c.in-Some.ensures.comes.apart c.in-Some.object.size c.in-Some.object.place _ sz c.in-Some.ensures.read.place (c.next-cursor.ensures small)
-                c.in-Some.object.header c.in-Some.ensures.read.header.plain (eqb-false _ 3 (sym c.is_marked.ensures ∙ w.if-is_marked.false)),
+                clear-skip m P limit so up C all ws hs e1 _ _ c.args.end f k c.in-Some.ensures.comes.apart c.in-Some.object.size c.in-Some.object.place _ sz c.in-Some.ensures.seen.place (c.next-cursor.ensures small)
+                c.in-Some.object.header seen (eqb-false _ 3 (sym c.is_marked.ensures ∙ w.if-is_marked.false)),
           )
     ]
 
