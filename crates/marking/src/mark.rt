@@ -18,7 +18,7 @@ impl Pending {
         ensures marked { MarkedAt (M.Memory.words space.old.memory) space.old.handles self.old place (M.Memory.words space.new.memory) space.new.handles self.new }
         ensures kept { KeptIn M.Memory.words space.old space.new }
     {
-        let header = space.look(place);
+        let header = space.memory.read(place as usize);
         if is_unmarked(header) {
             space.store(place, marked(header));
             self.live = self.live.wrapping_add(size_in(header));
