@@ -4,7 +4,7 @@ use lib.Seq.{take-set-lt}
 use Rattle.std.proofs.lemmas.Bool.{cases_Bool, cases_lt, cond-true, cond-false, lt-ltb, le-ltb, not_from_true, eq-eqb, eqb-true, eqb-false}
 use Rattle.std.proofs.lemmas.Bool.Decides.{nat_tests}
 use Rattle.std.proofs.lemmas.Grind.{same_number_lists}
-use Rattle.std.proofs.lemmas.List.{drop-set-lt, length-map, get_or_past, get_or-set_same, get_or-set_other}
+use Rattle.std.proofs.lemmas.List.{length-append, length-replicate, length-drop, get_or_append_left, get_or-append_right, get_or-drop, get_or-replicate, drop-set-lt, length-map, get_or_past, get_or-set_same, get_or-set_other}
 use Rattle.memory.specs.Ranges.{cleared as zeroed}
 use Rattle.scheme.specs.Meaning.{Meaning, is_raw}
 use Rattle.graph.specs.declared.Call.{Call}
@@ -83,6 +83,31 @@ zeros-at ws p (suc n) k = zeros-at (set ws p 0) (suc p) n k ∙ go (eqb k p) ref
 -- a range of the words that is cleared is so many zeros written one after another
 pub put-zeros : (ws vs : List ℕ) (p n : ℕ) → length vs ≡ length ws → ((k : ℕ) → get_or vs k 0 ≡ zeroed ws p (p + n) k) → vs ≡ put ws p (replicate n 0)
 put-zeros ws vs p n l so = same_number_lists vs _ (l ∙ sym (length-put (replicate n 0) ws p)) (λ k _. so k ∙ sym (zeros-at ws p n k))
+
+-- and at the front it leaves zeros before what was behind them
+pub zeros-front : (ws vs : List ℕ) (n : ℕ) → n ≤ length ws → length vs ≡ length ws → ((k : ℕ) → get_or vs k 0 ≡ zeroed ws 0 n k) → vs ≡ replicate n 0 ++ drop n ws
+zeros-front ws vs n le l so = same_number_lists vs _ (l ∙ sym long) (λ k _. so k ∙ at k)
+  where
+    long : length (replicate n 0 ++ drop n ws) ≡ length ws
+    long = length-append (replicate n 0) (drop n ws) ∙ simp (length-replicate, length-drop) (omega arith)
+
+    front : (n k : ℕ) → k < n → (leb 0 k && ltb k n) ≡ true
+    front n k h = grind (arith, nat_tests)
+
+    behind : (n k : ℕ) → n ≤ k → (leb 0 k && ltb k n) ≡ false
+    behind n k h = grind (arith, nat_tests)
+
+    at : (k : ℕ) → zeroed ws 0 n k ≡ get_or (replicate n 0 ++ drop n ws) k 0
+    at k =
+        elim (cases_lt k n) [
+          | inl h ↦
+              cond-true _ _ _ (front n k h)
+              ∙ sym (get_or_append_left (replicate n 0) (drop n ws) 0 k (subst (λ m. k < m) (sym (length-replicate n 0)) h) ∙ get_or-replicate n k 0 0 h)
+          | inr h ↦
+              let same : n + (k - n) ≡ k = omega arith in
+              cond-false _ _ _ (behind n k h)
+              ∙ sym (get_or-append_right (replicate n 0) (drop n ws) n k 0 (length-replicate n 0) h ∙ get_or-drop n ws (k - n) 0 ∙ ap (λ i. get_or ws i 0) same)
+        ]
 
 -- Room.
 

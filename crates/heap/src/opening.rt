@@ -17,10 +17,7 @@ impl<M: Memory, S: Scheme> Heap<M, S> {
         ensures stands { Stands (S.Scheme.meaning scheme) (view M.Memory.words result) bare [] }
     {
         let limit = memory.length().min(WORDS);
-        // By place: a memory has no slice to fill.
-        for place in 0..limit {
-            memory.write(place, 0);
-        }
+        memory.clear(0, limit);
         Heap {
             space: Space {
                 memory,
