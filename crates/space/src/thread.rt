@@ -23,15 +23,15 @@ impl<M: Memory> Space<M> {
         }
     }
 
-    // Takes the list off the header at the place, so that it stands there again, and puts the reference into each slot of the list. Gives the header.
+    // Takes the list off the header at the place of the memory, so that it stands there again, and puts the reference into each slot of the list. Gives the header.
     #[inline(always)]
     pub(crate) fn unthread(&mut self, place: u32, reference: u32) -> u32
         ensures header { Heads (M.Memory.words self.old.memory) self.old.handles place result }
         ensures woven { (up : Bool) (q : ℕ) → (q < 16384 → reference ≡ q * 4 + tag_by up) → Unthreaded up (M.Memory.words self.old.memory) self.old.handles place q (M.Memory.words self.new.memory) self.new.handles }
-        ensures none { view (M.Memory.words self.old.memory) self.old.handles place % 2 ≡ 1 → view (M.Memory.words self.new.memory) self.new.handles ≡ view (M.Memory.words self.old.memory) self.old.handles }
+        ensures none { place < 16384 → view (M.Memory.words self.old.memory) self.old.handles place % 2 ≡ 1 → view (M.Memory.words self.new.memory) self.new.handles ≡ view (M.Memory.words self.old.memory) self.old.handles }
         ensures kept { KeptIn M.Memory.words self.old self.new }
     {
-        let mut word = self.look(place);
+        let mut word = self.memory.read(place as usize);
         if ends_list(word) {
             return word;
         }
