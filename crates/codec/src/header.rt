@@ -66,6 +66,13 @@ pub fn is_unmarked(word: u32) -> bool
     word % 4 == 1
 }
 
+/// Whether a header has its mark, which is bit 1.
+pub fn has_mark(header: u32) -> bool
+    ensures { result ≡ (header / 2 % 2 == 1) }
+{
+    header / 2 % 2 == 1
+}
+
 /// The header with its mark.
 pub fn marked(header: u32) -> u32
     ensures { result ≡ header + (if nat_eq (header / 2 % 2) 1 then 0 else 2) }

@@ -31,6 +31,13 @@ impl Memory for &mut [u8] {
         }
     }
 
+    fn write_within(&mut self, place: usize, word: u32)
+        ensures word { words_of self.new.now ≡ slice_set (words_of self.old.now) place word }
+        ensures leftover { (k : ℕ) → length self.old.now / 4 * 4 ≤ k → slice_index self.new.now k ≡ slice_index self.old.now k }
+    {
+        self.write(place, word);
+    }
+
     // This and `clear` at once, as over a slice of words.
     fn shift(&mut self, from: usize, to: usize, size: usize)
         ensures length { length (words_of self.new.now) ≡ length (words_of self.old.now) }

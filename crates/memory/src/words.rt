@@ -19,6 +19,14 @@ impl Memory for &mut [u32] {
         }
     }
 
+    fn read_within(&self, place: usize) -> u32 {
+        self[place]
+    }
+
+    fn write_within(&mut self, place: usize, word: u32) {
+        self[place] = word;
+    }
+
     // This and `clear` at once: the trait's own bodies go word by word.
     #[inline(always)]
     fn shift(&mut self, from: usize, to: usize, size: usize) {

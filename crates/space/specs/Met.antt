@@ -1,22 +1,34 @@
 -- The objects that a walk over a side meets.
-use Rattle.std.specs.Prelude.{◌≡◌, ℕ, ◌%◌, ◌<◌, Bool, List, Option, MatchOption, slice_index}
+use Rattle.std.specs.Prelude.{◌≡◌, ℕ, ◌+◌, ◌-◌, ◌/◌, ◌%◌, ◌^◌, ◌<◌, ◌≤◌, Bool, true, false, List, Option, MatchOption, IfSome, slice_index}
 use Rattle.space.specs.Weave.{view, Heads, Unthreaded}
-use Rattle.space.specs.Pass.{Sized, size_seen, Comes, Stops, place_by}
+use Rattle.space.specs.Pass.{Sized, size_seen, place_by}
 use Rattle.space.specs.declared.side.Object.{Object}
+
+-- The word by which a cursor reads a size is among the first n: the one before which it stands on its way up, the one behind which it stands on its way down.
+pub record Among (up : Bool) (n c : ℕ) : Type 0 where
+  pub upward : up ≡ true → c < n
+  pub downward : up ≡ false → (0 < c) × (c ≤ n)
+
+-- a cursor can go by so many words: up within 32 bits, down to word 0
+pub record Goes (up : Bool) (c size : ℕ) : Type 0 where
+  pub upward : up ≡ true → c + size < 2 ^ 32
+  pub downward : up ≡ false → size ≤ c
+
+-- the size leads the cursor on
+pub record Leads (up : Bool) (c size : ℕ) : Type 0 where
+  pub some : 0 < size
+  pub goes : Goes up c size
 
 -- Where nothing is threaded: the object is as its header and its boundary tag say.
 pub record Seen (up : Bool) (ws : List ℕ) (c : ℕ) (o : Object) : Type 0 where
   pub sized : o.size ≡ size_seen up ws c
   pub place : o.place ≡ place_by up c o.size
   pub header : o.header ≡ slice_index ws o.place
+  pub leads : Leads up c o.size
 
--- the cursor has come to that object on its way to the end
-pub record SeesOne (up : Bool) (ws : List ℕ) (c end : ℕ) (o : Object) : Type 0 where
-  pub comes : Comes up (λ r. r ≡ size_seen up ws c) c end o.size
-  pub seen : Seen up ws c o
-
-abbrev pub Sees : Bool → List ℕ → ℕ → ℕ → Option Object → Type 0
-Sees up ws c end o = MatchOption o (Stops up (λ r. r ≡ size_seen up ws c) c end) (SeesOne up ws c end)
+-- there is no object by a size that leads nowhere
+abbrev pub Sees : Bool → List ℕ → ℕ → Option Object → Type 0
+Sees up ws c o = MatchOption o (Leads up c (size_seen up ws c) → ⊥) (Seen up ws c)
 
 -- Where references are threaded: the header stands at the end of the object's list.
 -- the object whose size the cursor reads: where it lies by that size, and its header
@@ -24,21 +36,32 @@ pub record Read (up : Bool) (ws hs : List ℕ) (c : ℕ) (o : Object) : Type 0 w
   pub sized : Sized up ws hs c o.size
   pub place : o.place ≡ place_by up c o.size
   pub header : Heads ws hs o.place o.header
+  pub leads : Leads up c o.size
 
--- What the list of the object at p, which is to lie at q, has become: each of its slots refers to q. Where there is no list, all is as it was.
-pub record Paid (up : Bool) (ws hs : List ℕ) (p q : ℕ) (vs gs : List ℕ) : Type 0 where
-  pub listed : Unthreaded up ws hs p q vs gs
-  pub none : p < 16384 → view ws hs p % 2 ≡ 1 → view vs gs ≡ view ws hs
+-- the cursor reads a size that leads nowhere
+pub record Astray (up : Bool) (ws hs : List ℕ) (c : ℕ) : Type 0 where
+  pub size : ℕ
+  pub sized : Sized up ws hs c size
+  pub nowhere : Leads up c size → ⊥
 
--- of the object that is met, if one is; and nothing is altered at the end
-abbrev pub PaidFor : Bool → List ℕ → List ℕ → ℕ → ℕ → ℕ → List ℕ → List ℕ → Option Object → Type 0
-PaidFor up ws hs c end t vs gs o =
-    MatchOption o (c ≡ end → view vs gs ≡ view ws hs) (λ o. Paid up ws hs o.place (place_by up t o.size) vs gs)
+abbrev pub Met : Bool → List ℕ → List ℕ → ℕ → Option Object → Type 0
+Met up ws hs c o = MatchOption o (Astray up ws hs c) (Read up ws hs c)
 
--- the cursor has come to that object on its way to the end
-pub record MeetsOne (up : Bool) (ws hs : List ℕ) (c end : ℕ) (o : Object) : Type 0 where
-  pub comes : Comes up (Sized up ws hs c) c end o.size
-  pub read : Read up ws hs c o
+-- What the list of the object has become, which is to lie before the new cursor t: each of its slots refers there. Where there is no list, all is as it was.
+pub record Paid (up : Bool) (ws hs : List ℕ) (t : ℕ) (vs gs : List ℕ) (o : Object) : Type 0 where
+  pub listed : Goes up t o.size → Unthreaded up ws hs o.place (place_by up t o.size) vs gs
+  pub none : view ws hs o.place % 2 ≡ 1 → view vs gs ≡ view ws hs
 
-abbrev pub Met : Bool → List ℕ → List ℕ → ℕ → ℕ → Option Object → Type 0
-Met up ws hs c end o = MatchOption o (Stops up (Sized up ws hs c) c end) (MeetsOne up ws hs c end)
+abbrev pub PaidFor : Bool → List ℕ → List ℕ → ℕ → List ℕ → List ℕ → Option Object → Type 0
+PaidFor up ws hs t vs gs o = IfSome o (Paid up ws hs t vs gs)
+
+-- the record with that header
+pub record IsRecord (place header : ℕ) (o : Object) : Type 0 where
+  pub place_is : o.place ≡ place
+  pub size_is : o.size ≡ header / 16
+  pub header_is : o.header ≡ header
+  pub some : 0 < o.size
+
+-- the size in the boundary tag before the cursor, if it leads on
+abbrev pub IsTagged : List ℕ → ℕ → Option ℕ → Type 0
+IsTagged ws c o = MatchOption o (Leads false c (slice_index ws (c - 1)) → ⊥) (λ size. (size ≡ slice_index ws (c - 1)) × (0 < size) × (size ≤ c))

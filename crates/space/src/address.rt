@@ -1,5 +1,5 @@
 // One address space: address p below 16,384 is word p of the memory, 16,384 + h is handle h.
-ghost use Rattle.std.specs.Prelude.{◌≡◌, replicate};
+ghost use Rattle.std.specs.Prelude.{◌≡◌, length, min, replicate};
 ghost use Rattle.space.specs.Weave.{view, Stored};
 
 use crate::{ADDRESSES, Space, WORDS};
@@ -14,6 +14,13 @@ impl<M: Memory> Space<M> {
             memory,
             handles: [0; 32],
         }
+    }
+
+    /// How many words of the memory a heap may use.
+    pub fn limit(&self) -> u32
+        ensures { result ≡ min (length (M.Memory.words self.now.memory)) 16384 }
+    {
+        self.memory.length().min(WORDS as usize) as u32
     }
 
     /// The word at an address, 0 past the last.

@@ -1,5 +1,6 @@
 // The classes' side.
-ghost use Rattle.std.specs.Prelude.{Bool, false};
+ghost use Rattle.std.specs.Prelude.{Bool, false, length};
+ghost use Rattle.space.specs.Met.{Among, IsTagged};
 
 use crate::{Bounds, Object, Side, Space};
 use codec::value::to_class;
@@ -8,41 +9,54 @@ use memory::Memory;
 /// Classes: by their boundary tags, from the right.
 pub struct Classes;
 
+// The size of the class that ends before the cursor, by its boundary tag, if it can lie there.
+fn tag_before<M: Memory>(memory: &M, cursor: u32) -> Option<u32>
+    requires { Among false (length (M.Memory.words memory.now)) cursor }
+    ensures { IsTagged (M.Memory.words memory.now) cursor result }
+{
+    let size = memory.read_within(cursor as usize - 1);
+    // One test for a size of 0, and for one that goes below word 0: either way the place would not be lower.
+    if cursor.wrapping_sub(size) >= cursor {
+        return None;
+    }
+    Some(size)
+}
+
 impl Side for Classes {
     ghost upward = { false };
 
-    #[inline(always)]
-    fn see<M: Memory>(memory: &M, cursor: u32) -> Object {
-        let size = memory.read(cursor.saturating_sub(1) as usize);
-        let place = cursor.saturating_sub(size);
-        Object {
-            place,
-            size,
-            header: memory.read(place as usize),
-        }
+    fn is_before(cursor: u32, end: u32) -> bool {
+        end < cursor
     }
 
     #[inline(always)]
-    fn meet<M: Memory>(space: &mut Space<M>, cursor: u32, to: u32) -> Object {
-        let size = space.memory.read(cursor.saturating_sub(1) as usize);
-        let place = cursor.saturating_sub(size);
-        Object {
+    fn see<M: Memory>(memory: &M, cursor: u32) -> Option<Object> {
+        let size = tag_before(memory, cursor)?;
+        let place = cursor - size;
+        Some(Object {
             place,
             size,
-            header: space.unthread(place, to_class(to.saturating_sub(size))),
-        }
+            header: memory.read_within(place as usize),
+        })
+    }
+
+    #[inline(always)]
+    fn meet<M: Memory>(space: &mut Space<M>, cursor: u32, to: u32) -> Option<Object> {
+        let size = tag_before(&space.memory, cursor)?;
+        let place = cursor - size;
+        Some(Object {
+            place,
+            size,
+            header: space.unthread(place, to_class(to.wrapping_sub(size))),
+        })
     }
 
     fn place(cursor: u32, size: u32) -> u32 {
-        cursor.saturating_sub(size)
+        cursor.wrapping_sub(size)
     }
 
     fn next(cursor: u32, size: u32) -> u32 {
-        cursor.saturating_sub(size)
-    }
-
-    fn gap(cursor: u32, end: u32) -> u32 {
-        cursor.saturating_sub(end)
+        cursor.wrapping_sub(size)
     }
 
     fn take(bounds: &mut Bounds, size: u32) -> u32 {

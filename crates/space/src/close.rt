@@ -1,11 +1,11 @@
 // The backward update: records, then classes.
-ghost use Rattle.std.specs.Prelude.{◌≡◌};
+ghost use Rattle.std.specs.Prelude.{◌≡◌, length, min};
 ghost use Rattle.space.specs.Keeping.{KeptIn};
-ghost use Rattle.space.specs.Pass.{Closed, ClosedSide};
+ghost use Rattle.space.specs.Pass.{Bounded, Closed, ClosedSide};
 ghost use Rattle.space.specs.Collect.{Closes};
 
-use crate::{Bounds, Classes, Object, Records, Side, Space, WORDS};
-use codec::header::is_marked;
+use crate::{Bounds, Classes, Object, Records, Side, Space};
+use codec::header::has_mark;
 use memory::Memory;
 
 impl<M: Memory> Space<M> {
@@ -16,23 +16,23 @@ impl<M: Memory> Space<M> {
         ensures kept { KeptIn M.Memory.words self.old self.new }
     {
         self.slide(object.place, new_place, object.size);
-        // Two less, down to 0: in wild words there need be no mark, and codec's `unmarked` would then leave the word.
+        // Two less: the mark. By `unmarked` it would be tested once more.
         self.store(new_place, object.header.saturating_sub(2));
     }
 
     // Goes over a side, and answers where it now ends.
     fn close_side<T: Side>(&mut self, from: u32, end: u32) -> u32
+        requires { Bounded T.Side.upward (min (length (M.Memory.words self.old.memory)) 16384) from end }
         ensures closed { ClosedSide T.Side.upward (M.Memory.words self.old.memory) self.old.handles from end result (M.Memory.words self.new.memory) self.new.handles }
         ensures kept { KeptIn M.Memory.words self.old self.new }
     {
         let mut cursor = from;
         let mut to = from;
-        // Turns are counted, since in wild words a size may be 0. Four walks go so: a cursor that counts would be a type more and a line less in each.
-        for turn in 0..WORDS {
-            let Some(object) = self.object_met::<T>(cursor, to, end) else {
+        'walk: while T::is_before(cursor, end) {
+            let Some(object) = T::meet(self, cursor, to) else {
                 break;
             };
-            if is_marked(object.header) {
+            if has_mark(object.header) {
                 self.close_object(object, T::place(to, object.size));
                 to = T::next(to, object.size);
             }
@@ -47,8 +47,9 @@ impl<M: Memory> Space<M> {
         ensures limit { result.limit ≡ bounds.limit }
         ensures kept { KeptIn M.Memory.words self.old self.new }
     {
-        let low = self.close_side::<Records>(0, bounds.low);
-        let high = self.close_side::<Classes>(bounds.limit, bounds.high);
+        let limit = self.limit();
+        let low = self.close_side::<Records>(0, bounds.low.min(limit));
+        let high = self.close_side::<Classes>(bounds.limit.min(limit), bounds.high);
         self.wipe(low, high);
         Bounds {
             low,

@@ -1,12 +1,13 @@
 // The forward update: handles, then records, then classes.
-ghost use Rattle.std.specs.Prelude.{◌+◌, ◌/◌, ◌%◌, ◌≤◌};
+ghost use Rattle.std.specs.Prelude.{◌≡◌, ◌+◌, ◌/◌, ◌%◌, ◌≤◌, length, min};
 ghost use Rattle.space.specs.Keeping.{KeptIn};
-ghost use Rattle.space.specs.Pass.{ThreadedWords, ThreadedHandles, Visited, DrawnSide};
+ghost use Rattle.space.specs.Pass.{ThreadedWords, ThreadedHandles, Visited, DrawnSide, Bounded};
 ghost use Rattle.space.specs.Slots.{values_of};
 ghost use Rattle.space.specs.Collect.{DrawsRecords, DrawsClasses, Draws};
 
-use crate::{Bounds, Classes, MOST_WORDS, Object, Records, Side, Slots, Space, WORDS};
-use codec::header::is_marked;
+use crate::thread::Slot;
+use crate::{Bounds, Classes, Object, Records, Side, Slots, Space};
+use codec::header::has_mark;
 use codec::value::refers;
 use memory::Memory;
 use scheme::Scheme;
@@ -14,62 +15,66 @@ use scheme::Scheme;
 impl<M: Memory> Space<M> {
     // Threads each reference of the object at the place, lowest first.
     #[inline(always)]
-    fn thread_words(&mut self, place: u32, size: u32, slots: Slots)
-        requires { place + size ≤ 16384 }
+    fn thread_words(&mut self, limit: u32, place: u32, size: u32, slots: Slots)
+        requires limit { limit ≡ min (length (M.Memory.words self.old.memory)) 16384 }
+        requires within { place + size ≤ limit }
         ensures threaded { ThreadedWords (values_of slots) (M.Memory.words self.old.memory) self.old.handles place size (M.Memory.words self.new.memory) self.new.handles }
         ensures kept { KeptIn M.Memory.words self.old self.new }
     {
+        let mut left = slots.below(size);
         // By number: each word is looked up in a space that its threading alters.
-        for i in 1..size.min(MOST_WORDS) {
-            if slots.is_value(i) {
-                let word = self.memory.read((place + i) as usize);
-                if refers(word) {
-                    self.thread(place + i, word);
-                }
+        while let Some(i) = left.pop_first() {
+            let word = self.memory.read_within((place + i) as usize);
+            if refers(word) {
+                self.thread(limit, Slot::Word(place + i), word);
             }
         }
     }
 
-    // Threads each reference of the handle table, by its address: the words go with their index. Marking has a loop of its own: a closure for the step would be no plainer.
-    fn thread_handles(&mut self)
+    // Threads each reference of the handle table, by its handle: the words go with their index. Marking has a loop of its own: a closure for the step would be no plainer.
+    fn thread_handles(&mut self, limit: u32)
+        requires { limit ≡ min (length (M.Memory.words self.old.memory)) 16384 }
         ensures threaded { ThreadedHandles (M.Memory.words self.old.memory) self.old.handles (M.Memory.words self.new.memory) self.new.handles }
         ensures kept { KeptIn M.Memory.words self.old self.new }
     {
         let table = self.handles;
         for (h, word) in table.iter().enumerate() {
             if refers(*word) {
-                self.thread(WORDS + h as u32, *word);
+                self.thread(limit, Slot::Handle(h as u32), *word);
             }
         }
     }
 
     // A marked object, whose list is taken off: its references are threaded.
     #[inline(always)]
-    fn visit<S: Scheme>(&mut self, scheme: &S, object: Object)
+    fn visit<S: Scheme>(&mut self, scheme: &S, limit: u32, object: Object)
+        requires limit { limit ≡ min (length (M.Memory.words self.old.memory)) 16384 }
+        requires place { object.place ≤ limit }
         ensures visited { Visited (S.Scheme.meaning scheme.now) (M.Memory.words self.old.memory) self.old.handles object.place object.size (object.header / 4 % 4) (M.Memory.words self.new.memory) self.new.handles }
         ensures kept { KeptIn M.Memory.words self.old self.new }
     {
-        let slots = self.slots_of(scheme, object.place, object.header);
-        // In wild words it need not lie within the heap's.
-        if object.place <= WORDS && object.size <= WORDS - object.place {
-            self.thread_words(object.place, object.size, slots);
+        // In wild words it need not end within the heap's.
+        if object.size <= limit - object.place {
+            let slots = self.slots_of(scheme, object.place, object.header);
+            self.thread_words(limit, object.place, object.size, slots);
         }
     }
 
     // Goes over a side.
-    fn draw_side<T: Side, S: Scheme>(&mut self, scheme: &S, from: u32, end: u32)
+    fn draw_side<T: Side, S: Scheme>(&mut self, scheme: &S, limit: u32, from: u32, end: u32)
+        requires limit { limit ≡ min (length (M.Memory.words self.old.memory)) 16384 }
+        requires ends { Bounded T.Side.upward limit from end }
         ensures drawn { DrawnSide (S.Scheme.meaning scheme.now) T.Side.upward (M.Memory.words self.old.memory) self.old.handles from end (M.Memory.words self.new.memory) self.new.handles }
         ensures kept { KeptIn M.Memory.words self.old self.new }
     {
         let mut cursor = from;
         let mut to = from;
-        // Turns are counted, since in wild words a size may be 0. Four walks go so: a cursor that counts would be a type more and a line less in each.
-        for turn in 0..WORDS {
-            let Some(object) = self.object_met::<T>(cursor, to, end) else {
+        'walk: while T::is_before(cursor, end) {
+            let Some(object) = T::meet(self, cursor, to) else {
                 break;
             };
-            if is_marked(object.header) {
-                self.visit(scheme, object);
+            if has_mark(object.header) {
+                self.visit(scheme, limit, object);
                 to = T::next(to, object.size);
             }
             cursor = T::next(cursor, object.size);
@@ -81,8 +86,9 @@ impl<M: Memory> Space<M> {
         ensures drawn { DrawsRecords (S.Scheme.meaning scheme.now) (M.Memory.words self.old.memory) self.old.handles bounds.low (M.Memory.words self.new.memory) self.new.handles }
         ensures kept { KeptIn M.Memory.words self.old self.new }
     {
-        self.thread_handles();
-        self.draw_side::<Records, S>(scheme, 0, bounds.low);
+        let limit = self.limit();
+        self.thread_handles(limit);
+        self.draw_side::<Records, S>(scheme, limit, 0, bounds.low.min(limit));
     }
 
     /// The forward update of the classes, once all records are done: until then every word of a class but its header is as it was.
@@ -90,7 +96,8 @@ impl<M: Memory> Space<M> {
         ensures drawn { DrawsClasses (S.Scheme.meaning scheme.now) (M.Memory.words self.old.memory) self.old.handles bounds.limit bounds.high (M.Memory.words self.new.memory) self.new.handles }
         ensures kept { KeptIn M.Memory.words self.old self.new }
     {
-        self.draw_side::<Classes, S>(scheme, bounds.limit, bounds.high);
+        let limit = self.limit();
+        self.draw_side::<Classes, S>(scheme, limit, bounds.limit.min(limit), bounds.high);
     }
 
     /// The forward update.

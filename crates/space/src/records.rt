@@ -1,5 +1,6 @@
 // The records' side.
-ghost use Rattle.std.specs.Prelude.{◌≡◌, ◌/◌, Bool, true};
+ghost use Rattle.std.specs.Prelude.{◌≡◌, ◌/◌, MatchOption, Bool, true};
+ghost use Rattle.space.specs.Met.{IsRecord};
 
 use crate::{Bounds, Object, Side, Space};
 use codec::header::size_in;
@@ -10,26 +11,34 @@ use memory::Memory;
 pub struct Records;
 
 // The record at a place, by its header.
-fn record(place: u32, header: u32) -> Object
-    ensures { (result.place ≡ place) × (result.size ≡ header / 16) × (result.header ≡ header) }
+fn record(place: u32, header: u32) -> Option<Object>
+    ensures { MatchOption result (header / 16 ≡ 0) (IsRecord place header) }
 {
-    Object {
-        place,
-        size: size_in(header),
-        header,
+    let size = size_in(header);
+    if size == 0 {
+        return None;
     }
+    Some(Object {
+        place,
+        size,
+        header,
+    })
 }
 
 impl Side for Records {
     ghost upward = { true };
 
-    #[inline(always)]
-    fn see<M: Memory>(memory: &M, cursor: u32) -> Object {
-        record(cursor, memory.read(cursor as usize))
+    fn is_before(cursor: u32, end: u32) -> bool {
+        cursor < end
     }
 
     #[inline(always)]
-    fn meet<M: Memory>(space: &mut Space<M>, cursor: u32, to: u32) -> Object {
+    fn see<M: Memory>(memory: &M, cursor: u32) -> Option<Object> {
+        record(cursor, memory.read_within(cursor as usize))
+    }
+
+    #[inline(always)]
+    fn meet<M: Memory>(space: &mut Space<M>, cursor: u32, to: u32) -> Option<Object> {
         record(cursor, space.unthread(cursor, to_record(to)))
     }
 
@@ -39,10 +48,6 @@ impl Side for Records {
 
     fn next(cursor: u32, size: u32) -> u32 {
         cursor.wrapping_add(size)
-    }
-
-    fn gap(cursor: u32, end: u32) -> u32 {
-        end.saturating_sub(cursor)
     }
 
     fn take(bounds: &mut Bounds, size: u32) -> u32 {

@@ -1,8 +1,8 @@
 // Which words of an object hold values, and so may refer to another object.
-ghost use Rattle.std.specs.Prelude.{◌≡◌, ℕ, slice_index};
+ghost use Rattle.std.specs.Prelude.{◌≡◌, ℕ, ◌%◌, ◌<◌, ◌&&◌, nat_lt, slice_index};
 ghost use Rattle.graph.specs.Places.{value_at};
 ghost use Rattle.space.specs.Pass.{rule_at};
-ghost use Rattle.space.specs.Slots.{values_of, Reads};
+ghost use Rattle.space.specs.Slots.{values_of, Popped, Reads};
 
 use crate::Space;
 use codec::header::{Shape, shape_in};
@@ -10,7 +10,7 @@ use codec::value::place_of;
 use memory::Memory;
 use scheme::Scheme;
 
-/// Which words of an object hold values: bit i says it of word i, and bit 63 of the words past it too, which no object has.
+/// Which words of an object hold values: bit i says it of word i. No object has 64 words.
 #[derive(Clone, Copy, PartialEq, Eq, Debug)]
 pub struct Slots {
     values: u64,
@@ -24,17 +24,34 @@ const MAP_SLOTS: Slots = Slots { values: 0b1100 };
 impl Slots {
     // Of a record all but its header and its raw fields.
     fn of_record<S: Scheme>(scheme: &S, rule: u32) -> Slots
-        ensures { (i : ℕ) → values_of result i ≡ value_at (S.Scheme.meaning scheme.now) 0 rule i }
+        ensures { (i : ℕ) → i < 64 → values_of result i ≡ value_at (S.Scheme.meaning scheme.now) 0 rule i }
     {
         let others = u64::from(scheme.raw_fields(rule)) * 4 + 1;
         Slots { values: !others }
     }
 
-    /// Whether word i of the object holds a value.
-    pub fn is_value(self, i: u32) -> bool
-        ensures { result ≡ values_of self i }
+    // By the size modulo 64, so that there is nothing to test.
+    /// Those of an object of so many words.
+    pub fn below(self, size: u32) -> Slots
+        ensures { (i : ℕ) → i < 64 → values_of result i ≡ (values_of self i && nat_lt i (size % 64)) }
     {
-        (self.values >> i.min(63)) & 1 == 1
+        let first = 1u64.wrapping_shl(size) - 1;
+        Slots {
+            values: self.values & first,
+        }
+    }
+
+    /// Takes out the first.
+    #[inline(always)]
+    pub fn pop_first(&mut self) -> Option<u32>
+        ensures { Popped self.old self.new result }
+    {
+        if self.values == 0 {
+            return None;
+        }
+        let first = self.values.trailing_zeros();
+        self.values &= !(1u64 << first);
+        Some(first)
     }
 }
 

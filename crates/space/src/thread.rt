@@ -1,37 +1,74 @@
 // Threading: the slots that refer to an object form a list that begins at its header's place and ends with the header.
-ghost use Rattle.std.specs.Prelude.{◌≡◌, ℕ, ◌+◌, ◌*◌, ◌%◌, ◌<◌, Bool};
+ghost use Rattle.std.specs.Prelude.{◌≡◌, ℕ, ◌+◌, ◌*◌, ◌%◌, ◌<◌, Bool, length, min};
 ghost use Rattle.space.specs.Ends.{tag_by};
-ghost use Rattle.space.specs.Weave.{view, Heads, Threaded, Unthreaded};
+ghost use Rattle.space.specs.Slots.{address, There};
+ghost use Rattle.space.specs.Weave.{view, Heads, Stored, Threaded, Unthreaded};
 ghost use Rattle.space.specs.Keeping.{KeptIn};
 
-use crate::{ADDRESSES, Space};
+use crate::{ADDRESSES, Space, WORDS};
 use codec::link::{address_of, ends_list, link_to};
 use codec::value::place_of;
 use memory::Memory;
 
+// Where a reference stands that is threaded: in a word of the memory, or in a handle.
+#[derive(Clone, Copy)]
+pub(crate) enum Slot {
+    Word(u32),
+    Handle(u32),
+}
+
+impl Slot {
+    // Its address.
+    fn address(self) -> u32
+        requires { There 16384 self }
+        ensures { result ≡ address self }
+    {
+        match self {
+            Slot::Word(place) => place,
+            Slot::Handle(h) => WORDS + h,
+        }
+    }
+}
+
 impl<M: Memory> Space<M> {
-    // Threads the reference in the slot, which is that word.
-    pub(crate) fn thread(&mut self, slot: u32, word: u32)
-        ensures woven { word ≡ view (M.Memory.words self.old.memory) self.old.handles slot → Threaded (M.Memory.words self.old.memory) self.old.handles slot (M.Memory.words self.new.memory) self.new.handles }
+    // Sets the word of a slot.
+    #[inline(always)]
+    fn fill(&mut self, slot: Slot, word: u32)
+        requires { There (min (length (M.Memory.words self.old.memory)) 16384) slot }
+        ensures { Stored (M.Memory.words self.old.memory) self.old.handles (address slot) word (M.Memory.words self.new.memory) self.new.handles }
+    {
+        match slot {
+            Slot::Word(place) => self.memory.write_within(place as usize, word),
+            Slot::Handle(h) => self.handles[h as usize] = word,
+        }
+    }
+
+    // Threads the reference in the slot, which is that word. So many words are there to use.
+    #[inline(always)]
+    pub(crate) fn thread(&mut self, limit: u32, slot: Slot, word: u32)
+        requires limit { limit ≡ min (length (M.Memory.words self.old.memory)) 16384 }
+        requires slot { There limit slot }
+        ensures woven { word ≡ view (M.Memory.words self.old.memory) self.old.handles (address slot) → Threaded (M.Memory.words self.old.memory) self.old.handles (address slot) (M.Memory.words self.new.memory) self.new.handles }
         ensures kept { KeptIn M.Memory.words self.old self.new }
     {
-        if slot < ADDRESSES {
-            let place = place_of(word);
-            let header = self.look(place);
-            self.store(slot, header);
-            self.store(place, link_to(slot));
+        let place = place_of(word);
+        if place < limit {
+            let header = self.memory.read_within(place as usize);
+            self.fill(slot, header);
+            self.fill(Slot::Word(place), link_to(slot.address()));
         }
     }
 
     // Takes the list off the header at the place of the memory, so that it stands there again, and puts the reference into each slot of the list. Gives the header.
     #[inline(always)]
     pub(crate) fn unthread(&mut self, place: u32, reference: u32) -> u32
+        requires { place < min (length (M.Memory.words self.old.memory)) 16384 }
         ensures header { Heads (M.Memory.words self.old.memory) self.old.handles place result }
         ensures woven { (up : Bool) (q : ℕ) → (q < 16384 → reference ≡ q * 4 + tag_by up) → Unthreaded up (M.Memory.words self.old.memory) self.old.handles place q (M.Memory.words self.new.memory) self.new.handles }
-        ensures none { place < 16384 → view (M.Memory.words self.old.memory) self.old.handles place % 2 ≡ 1 → view (M.Memory.words self.new.memory) self.new.handles ≡ view (M.Memory.words self.old.memory) self.old.handles }
+        ensures none { view (M.Memory.words self.old.memory) self.old.handles place % 2 ≡ 1 → view (M.Memory.words self.new.memory) self.new.handles ≡ view (M.Memory.words self.old.memory) self.old.handles }
         ensures kept { KeptIn M.Memory.words self.old self.new }
     {
-        let mut word = self.memory.read(place as usize);
+        let mut word = self.memory.read_within(place as usize);
         if ends_list(word) {
             return word;
         }
@@ -44,7 +81,7 @@ impl<M: Memory> Space<M> {
             word = self.look(slot);
             self.store(slot, reference);
         }
-        self.store(place, word);
+        self.fill(Slot::Word(place), word);
         word
     }
 }
