@@ -1,15 +1,26 @@
 -- A cursor on its way over a side, and the new place that goes with it.
 use Rattle.std.proofs.Common.{◌≡◌, ℕ, zero, suc, ◌+◌, ◌-◌, ◌<◌, ◌≤◌, Bool, true, false, ◌⊎◌, sym, refl, ap, ◌∙◌, subst, inl, inr, arith}
-use Rattle.std.proofs.lemmas.Bool.{cases_eq}
+use Rattle.std.proofs.lemmas.Bool.{cases_eq, ltb-true, ltb-false, leb-true, false≢true}
 use Rattle.scheme.specs.Meaning.{Meaning}
-use Rattle.space.specs.Pass.{Stops, Plan, Step, Course, next_by, gap_by}
+use Rattle.space.specs.Pass.{Plan, Step, Course, place_by, next_by, before, gap_by, slides_by}
+use Rattle.space.specs.Met.{Goes, Leads}
 
-pub closer : (b : Bool) (t c d size end : ℕ) → d ≡ next_by b c size → size ≤ gap_by b c end → 1 < size → t + gap_by b c end ≤ 16384 → t + 1 + gap_by b d end ≤ 16384
-closer true t c d size end x y z w = omega arith
-closer false t c d size end x y z w = omega arith
+no_way : (b : Bool) (c end size : ℕ) → before b c end ≡ false → 1 < size → size ≤ gap_by b c end → ⊥
+no_way true c end size h i j = let l : end ≤ c = ltb-false c end h in omega arith
+no_way false c end size h i j = let l : c ≤ end = ltb-false end c h in omega arith
 
-no_gap : (b : Bool) (t c end size : ℕ) → 16384 ≤ t → 1 < size → size ≤ gap_by b c end → t + gap_by b c end ≤ 16384 → ⊥
-no_gap b t c end size h i j k = omega arith
+-- on its way to the end a cursor is not there
+pub apart : (b : Bool) (c end : ℕ) → before b c end ≡ true → c ≡ end → ⊥
+apart true c end h e = let l : c < end = ltb-true c end h in omega arith
+apart false c end h e = let l : end < c = ltb-true end c h in omega arith
+
+leads_by : (b : Bool) (c end size : ℕ) → 1 < size → size ≤ gap_by b c end → place_by b c size + size ≤ 16384 → Leads b c size
+leads_by true c end size h i j = record { some = omega arith; goes = record { upward = λ z. omega arith; downward = λ z. absurd (false≢true (sym z)) } }
+leads_by false c end size h i j = record { some = omega arith; goes = record { upward = λ z. absurd (false≢true z); downward = λ z. omega arith } }
+
+goes_by : (b : Bool) (c q end size : ℕ) → size ≤ gap_by b c end → place_by b q size + size ≤ 16384 → slides_by b c q ≡ true → Goes b q size
+goes_by true c q end size h i j = record { upward = λ z. omega arith; downward = λ z. absurd (false≢true (sym z)) }
+goes_by false c q end size h i j = record { upward = λ z. absurd (false≢true z); downward = λ z. omega (arith, leb-true c q j) }
 
 pub still : (b : Bool) (q : ℕ) → next_by b q 0 ≡ q
 still true q = omega arith
@@ -60,44 +71,36 @@ module _ {m : Meaning} {P : Plan} {up : Bool} (C : Course m P up) where
   all_done : (j : ℕ) → j ≤ C.many → C.old j ≡ C.old C.many → (C.new j ≡ C.new C.many) × (C.num j ≡ C.num C.many) × ((i : ℕ) → j ≤ i → i < C.many → C.stands i ≡ false)
   all_done j l e = rest-same (C.many - j) j (omega arith) e
 
-  -- at its turn t the cursor is at c, and the kept objects behind it go up to q
-  pub record Cursor (q c t : ℕ) : Type 0 where
+  -- the cursor is at c, and the kept objects behind it go up to q
+  pub record Cursor (q c : ℕ) : Type 0 where
     pub at : ℕ
     pub within : at ≤ C.many
     pub is : c ≡ C.old at
     pub to : q ≡ C.new at
-    pub far : t + gap_by up c (C.old C.many) ≤ 16384
 
-  abbrev pub cursor-start : (from to : ℕ) → from ≡ C.old 0 → to ≡ C.new 0 → Cursor to from 0
-  cursor-start from to e f = record { at = 0; within = omega arith; is = e; to = f; far = rw e (omega (arith, C.near)) }
+  abbrev pub cursor-start : (from to : ℕ) → from ≡ C.old 0 → to ≡ C.new 0 → Cursor to from
+  cursor-start from to e f = record { at = 0; within = omega arith; is = e; to = f }
 
   -- all objects are behind it
-  pub record Past (q c t : ℕ) (k : Cursor q c t) : Type 0 where
+  pub record Past (q c : ℕ) (k : Cursor q c) : Type 0 where
     pub old : C.old C.many ≡ C.old k.at
     pub new : q ≡ C.new C.many
     pub num : C.num k.at ≡ C.num C.many
     pub none : (i : ℕ) → k.at ≤ i → i < C.many → C.stands i ≡ false
 
-  pub cursor-end : (q c t end : ℕ) → end ≡ C.old C.many → (k : Cursor q c t) → (c ≡ end) ⊎ (16384 ≤ t) → Past q c t k
-  cursor-end q c t end f k h = go (cases_eq c end)
-    where
-      done : c ≡ end → Past q c t k
-      done e =
-          let x = all_done k.at k.within (sym k.is ∙ e ∙ f) in
-          record { old = sym (sym k.is ∙ e ∙ f); new = k.to ∙ x.0; num = x.1; none = x.2 }
+  pub cursor-end : (q c end : ℕ) → end ≡ C.old C.many → (k : Cursor q c) → before up c end ≡ false → Past q c k
+  cursor-end q c end f k h = elim (cases_eq c end) [
+    | inl e ↦
+        let x = all_done k.at k.within (sym k.is ∙ e ∙ f) in
+        record { old = sym (sym k.is ∙ e ∙ f); new = k.to ∙ x.0; num = x.1; none = x.2 }
+    | inr ne ↦
+        let x = found k.at k.within (λ z. ne (k.is ∙ z ∙ sym f)) in
+        let st = C.step x.at x.below x.here in
+        let room : C.size x.at ≤ gap_by up c end = subst (λ z. C.size x.at ≤ gap_by up c z) (sym f) (subst (λ z. C.size x.at ≤ gap_by up z (C.old C.many)) (x.old ∙ sym k.is) st.room) in
+        absurd (no_way up c end (C.size x.at) h st.here.some room)
+  ]
 
-      go : (c ≡ end) ⊎ (c ≡ end → ⊥) → Past q c t k
-      go (inl e) = done e
-      go (inr ne) =
-          elim h [
-            | inl e ↦ done e
-            | inr l ↦
-                let x = found k.at k.within (λ z. ne (k.is ∙ z ∙ sym f)) in
-                let st = C.step x.at x.below x.here in
-                absurd (no_gap up t c (C.old C.many) (C.size x.at) l st.here.some (subst (λ z. C.size x.at ≤ gap_by up z (C.old C.many)) (x.old ∙ sym k.is) st.room) k.far)
-          ]
-
-  module _ (q c t end : ℕ) (f : end ≡ C.old C.many) (k : Cursor q c t) (ne : c ≡ end → ⊥) where
+  module _ (q c end : ℕ) (f : end ≡ C.old C.many) (k : Cursor q c) (ne : c ≡ end → ⊥) where
     -- the object that the cursor has come to
     pub record Next : Type 0 where
       pub at : ℕ
@@ -135,25 +138,13 @@ module _ {m : Meaning} {P : Plan} {up : Bool} (C : Course m P up) where
       pub stepped : Step m P up (C.kept next.at) size c (C.old (suc next.at)) q (C.new (suc next.at)) (C.num next.at) (C.num (suc next.at)) end
       stepped = subst (λ z. Step m P up (C.kept next.at) z c (C.old (suc next.at)) q (C.new (suc next.at)) (C.num next.at) (C.num (suc next.at)) end) (sym sz) next.step
 
-      -- the cursor behind it
-      abbrev pub advance : (c' q' : ℕ) → c' ≡ next_by up c size → q' ≡ C.new (suc next.at) → Cursor q' c' (t + 1)
-      advance c' q' ec eq =
-          record {
-            at = suc next.at;
-            within = next.below;
-            is = ec ∙ sym stepped.old;
-            to = eq;
-            far = rw ec (closer up t c (next_by up c size) size (C.old C.many) refl (rw (sym f) stepped.room) stepped.here.some k.far);
-          }
+      -- it leads the cursor on, and the new one with it
+      pub leads : Leads up c size
+      leads = leads_by up c end size stepped.here.some stepped.room stepped.low.0
 
-  -- a cursor stops at the end alone, where the sizes that it reads are those of the objects
-  pub stop-at-end : (is_size : ℕ → Type 0) (q c t end : ℕ) (f : end ≡ C.old C.many) (k : Cursor q c t) → ((ne : c ≡ end → ⊥) (size : ℕ) → is_size size → size ≡ C.size (next q c t end f k ne).at) →
-      Stops up is_size c end → c ≡ end
-  stop-at-end is_size q c t end f k reads stops =
-      elim (cases_eq c end) [
-        | inl z ↦ z
-        | inr ne ↦
-            let x = stops.size ne in
-            let st = stepped q c t end f k ne x.0 (reads ne x.0 x.1) in
-            absurd (omega (arith, x.2, st.room))
-      ]
+      pub goes : Goes up q size
+      goes = goes_by up c q end size stepped.room stepped.to.0 stepped.slide
+
+      -- the cursor behind it
+      abbrev pub advance : (c' q' : ℕ) → c' ≡ next_by up c size → q' ≡ C.new (suc next.at) → Cursor q' c'
+      advance c' q' ec eq = record { at = suc next.at; within = next.below; is = ec ∙ sym stepped.old; to = eq }

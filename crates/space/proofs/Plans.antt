@@ -251,6 +251,13 @@ module _ (m : Meaning) (W : ℕ) (g : Graph) (s k : List Bool) (kp : Keeps m W g
             let lim = kp.limit in
             let is = x.3 in
             inside-word (W + length rest) p (omega arith) (omega arith);
+        low = λ p h.
+            let x = head-of p h in
+            let e = ends x.0 x.2 in
+            let z = size-pos (object_at g x.0) in
+            let lim = kp.limit in
+            let is = x.3 in
+            omega arith;
         slots = slot-fine;
         ranked = λ a h. rank_most a;
       }

@@ -1,5 +1,5 @@
 // The classes' side.
-ghost use Rattle.std.specs.Prelude.{Bool, false, length};
+ghost use Rattle.std.specs.Prelude.{Bool, false, length, min};
 ghost use Rattle.space.specs.Met.{Among, IsTagged};
 
 use crate::{Bounds, Object, Side, Space};
@@ -11,7 +11,7 @@ pub struct Classes;
 
 // The size of the class that ends before the cursor, by its boundary tag, if it can lie there.
 fn tag_before<M: Memory>(memory: &M, cursor: u32) -> Option<u32>
-    requires { Among false (length (M.Memory.words memory.now)) cursor }
+    requires { Among false (min (length (M.Memory.words memory.now)) 16384) cursor }
     ensures { IsTagged (M.Memory.words memory.now) cursor result }
 {
     let size = memory.read_within(cursor as usize - 1);

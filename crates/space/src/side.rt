@@ -27,7 +27,7 @@ pub trait Side {
 
     // The object that the cursor has come to, where nothing is threaded. None if its size would not lead on, as in wild words.
     fn see<M: Memory>(memory: &M, cursor: u32) -> Option<Object>
-        requires { Among upward (length (M.Memory.words memory.now)) cursor }
+        requires { Among upward (min (length (M.Memory.words memory.now)) 16384) cursor }
         ensures { Sees upward (M.Memory.words memory.now) cursor result };
 
     // The same where references are threaded: the list of the object is followed to its header, and each slot of it gets the reference to where the object is

@@ -1,0 +1,69 @@
+-- The loop over the words of an object that hold values: what it passes over holds none.
+use Rattle.std.proofs.Common.{◌≡◌, ℕ, zero, suc, ◌+◌, ◌-◌, ◌<◌, ◌≤◌, Bool, true, false, not, ◌&&◌, eqb, add-zero, sym, refl, ap, ◌∙◌, subst, inl, inr, arith}
+use Rattle.std.proofs.lemmas.Bool.{both_ways, cases_lt, cases_eq, eq-eqb, ne_eqb}
+use Rattle.space.specs.declared.slot.Slots.{Slots}
+use Rattle.space.specs.Slots.{values_of, First}
+
+-- S holds up to the word `at`; the values from there on are left, and none before
+pub record Sweep (all left : Slots) (size : ℕ) (S : ℕ → Type 0) : Type 0 where
+  pub at : ℕ
+  pub some : 0 < at
+  pub most : at ≤ size
+  pub state : S at
+  pub before : (k : ℕ) → k < at → k < 64 → values_of left k ≡ false
+  pub after : (k : ℕ) → at ≤ k → k < 64 → values_of left k ≡ values_of all k
+
+steps : (S : ℕ → Type 0) (n a : ℕ) → ((k : ℕ) → a ≤ k → k < a + n → S k → S (k + 1)) → S a → S (a + n)
+steps S zero a f s = subst S (sym (add-zero a)) s
+steps S (suc n) a f s =
+    let e : a + n + 1 ≡ a + suc n = omega arith in
+    subst S e (f (a + n) (omega arith) (omega arith) (steps S n a (λ k l h. f k l (omega arith)) s))
+
+and-no : (b : Bool) → (b && not true) ≡ false
+and-no true = refl
+and-no false = refl
+
+and-yes : (b : Bool) → (b && not false) ≡ b
+and-yes true = refl
+and-yes false = refl
+
+module _ {all left : Slots} {size : ℕ} {S : ℕ → Type 0} (w : Sweep all left size S) where
+  sweep_from : (rest : Slots) (i : ℕ) → First left rest i → w.at ≤ i
+  sweep_from rest i f = elim (cases_lt i w.at) [ inl l ↦ absurd (both_ways (values_of left i) (w.before i l f.small) f.holds) | inr l ↦ l ]
+
+  -- up to the first value that is left
+  pub sweep-to : (rest : Slots) (i : ℕ) → First left rest i → ((k : ℕ) → 0 < k → k < i → values_of all k ≡ false → S k → S (k + 1)) → S i
+  sweep-to rest i f pass =
+      let from = sweep_from rest i f in
+      let some = w.some in
+      let e : w.at + (i - w.at) ≡ i = omega arith in
+      subst S e (steps S (i - w.at) w.at (λ k l h. pass k (omega arith) (omega arith) (sym (w.after k l (omega (arith, f.small))) ∙ f.first k (omega arith))) w.state)
+
+  -- and over it
+  pub sweep_on : {T : ℕ → Type 0} (rest : Slots) (i : ℕ) → First left rest i → i < size → T (i + 1) → Sweep all rest size T
+  sweep_on rest i f l s =
+      let from = sweep_from rest i f in
+      record {
+        at = i + 1;
+        some = omega arith;
+        most = omega arith;
+        state = s;
+        before = λ k h small. f.rest k small ∙ elim (cases_eq k i) [
+          | inl e ↦ ap (λ (b : Bool). values_of left k && not b) (eq-eqb k i e) ∙ and-no (values_of left k)
+          | inr ne ↦ ap (λ (b : Bool). b && not (eqb k i)) (f.first k (omega arith))
+        ];
+        after = λ k h small. f.rest k small ∙ ap (λ (b : Bool). values_of left k && not b) (ne_eqb k i (λ e. omega arith)) ∙ and-yes (values_of left k) ∙ w.after k (omega arith) small;
+      }
+
+  -- to the end, where none is left
+  pub sweep-end : ((k : ℕ) → values_of left k ≡ false) → size ≤ 64 → ((k : ℕ) → 0 < k → k < size → values_of all k ≡ false → S k → S (k + 1)) → S size
+  sweep-end none l pass =
+      let some = w.some in
+      let most = w.most in
+      let e : w.at + (size - w.at) ≡ size = omega arith in
+      subst S e (steps S (size - w.at) w.at (λ k h i. pass k (omega arith) (omega arith) (sym (w.after k h (omega arith)) ∙ none k)) w.state)
+
+-- at the first word behind the header, which holds no value
+pub sweep_start : (all : Slots) (size : ℕ) {S : ℕ → Type 0} → 0 < size → values_of all 0 ≡ false → S 1 → Sweep all all size S
+sweep_start all size l none s =
+    record { at = 1; some = omega arith; most = l; state = s; before = λ k h small. let e : k ≡ 0 = omega arith in ap (values_of all) e ∙ none; after = λ k h small. refl }
