@@ -28,7 +28,8 @@ and-yes true = refl
 and-yes false = refl
 
 module _ {all left : Slots} {size : ℕ} {S : ℕ → Type 0} (w : Sweep all left size S) where
-  sweep_from : (rest : Slots) (i : ℕ) → First left rest i → w.at ≤ i
+  -- the first value that is left
+  pub sweep_from : (rest : Slots) (i : ℕ) → First left rest i → w.at ≤ i
   sweep_from rest i f = elim (cases_lt i w.at) [ inl l ↦ absurd (both_ways (values_of left i) (w.before i l f.small) f.holds) | inr l ↦ l ]
 
   -- up to the first value that is left
