@@ -2,8 +2,8 @@
 use Rattle.std.proofs.Common.{◌≡◌, ℕ, zero, suc, ◌+◌, ◌-◌, ◌<◌, ◌≤◌, Bool, true, false, ◌⊎◌, sym, refl, ap, ◌∙◌, subst, inl, inr, arith}
 use Rattle.std.proofs.lemmas.Bool.{cases_eq, ltb-true, ltb-false, leb-true, false≢true}
 use Rattle.scheme.specs.Meaning.{Meaning}
-use Rattle.space.specs.Pass.{Plan, Step, Course, place_by, next_by, before, gap_by, slides_by}
-use Rattle.space.specs.Met.{Goes, Leads}
+use Rattle.space.specs.Pass.{Plan, Step, Course, place_by, next_by, before, Bounded, gap_by, slides_by}
+use Rattle.space.specs.Met.{Among, Goes, Leads}
 
 no_way : (b : Bool) (c end size : ℕ) → before b c end ≡ false → 1 < size → size ≤ gap_by b c end → ⊥
 no_way true c end size h i j = let l : end ≤ c = ltb-false c end h in omega arith
@@ -13,6 +13,21 @@ no_way false c end size h i j = let l : c ≤ end = ltb-false end c h in omega a
 pub apart : (b : Bool) (c end : ℕ) → before b c end ≡ true → c ≡ end → ⊥
 apart true c end h e = let l : c < end = ltb-true c end h in omega arith
 apart false c end h e = let l : end < c = ltb-true end c h in omega arith
+
+-- and the word by which it reads a size is within the walk's bound
+pub among_by : (b : Bool) (limit c end : ℕ) → Bounded b limit c end → before b c end ≡ true → Among b limit c
+among_by true limit c end l h = record { upward = λ z. omega (arith, ltb-true c end h, l); downward = λ z. absurd (false≢true (sym z)) }
+among_by false limit c end l h = record { upward = λ z. absurd (false≢true z); downward = λ z. (omega (arith, ltb-true end c h), l) }
+
+-- the bound stays
+pub bounded_next : (b : Bool) (limit c c' end size : ℕ) → Bounded b limit c end → c' ≡ next_by b c size → Bounded b limit c' end
+bounded_next true limit c c' end size l e = l
+bounded_next false limit c c' end size l e = omega (arith, l)
+
+-- a size that leads on leads nearer to the end
+pub closer : (b : Bool) (c c' end size : ℕ) → before b c end ≡ true → Leads b c size → c' ≡ next_by b c size → gap_by b c' end < gap_by b c end
+closer true c c' end size h l e = omega (arith, ltb-true c end h, l.some)
+closer false c c' end size h l e = omega (arith, ltb-true end c h, l.some, l.goes.downward refl)
 
 leads_by : (b : Bool) (c end size : ℕ) → 1 < size → size ≤ gap_by b c end → place_by b c size + size ≤ 16384 → Leads b c size
 leads_by true c end size h i j = record { some = omega arith; goes = record { upward = λ z. omega arith; downward = λ z. absurd (false≢true (sym z)) } }
