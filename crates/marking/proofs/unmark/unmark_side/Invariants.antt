@@ -1,17 +1,21 @@
-use Rattle.std.proofs.Common.{◌≡◌, ℕ, true, length}
+use Rattle.std.proofs.Common.{◌≡◌, ℕ, true, length, min}
 use Rattle.scheme.specs.Meaning.{Meaning}
 use Rattle.space.specs.Weave.{view, Kept}
-use Rattle.space.specs.Pass.{Plan, Course}
+use Rattle.space.specs.Pass.{Plan, Course, Bounded, gap_by}
 use Rattle.space.specs.Standing.{Standing}
 use Rattle.marking.proofs.Fades.{Clearing}
 use Rattle.marking.proofs.unmark.unmark_side.Given as goal
 
-abbrev pub invariant-loop-turn : goal.invariant-loop-turn
-invariant-loop-turn g l =
+abbrev pub invariant-walk : goal.invariant-walk
+invariant-walk g l =
     let ws = g.M.Memory.words l.initial.space.memory in
     let hs = l.initial.space.handles in
     let vs = g.M.Memory.words l.space.memory in
     let up = g.T.Side.upward in
     Kept ws hs vs l.space.handles
+    × Bounded up (min (length ws) 16384) l.cursor l.end
     × ((m : Meaning) (P : Plan) (limit : ℕ) (so : Standing m P limit) (C : Course m P up) (all : (j : ℕ) → C.stands j ≡ true → C.kept j ≡ true) → P.n ≡ length ws → l.end ≡ C.old C.many →
-    Clearing m P limit so up C all l.initial.cursor 0 (view ws hs) → Clearing m P limit so up C all l.cursor l.turn (view vs l.space.handles))
+    Clearing m P limit so up C all l.initial.cursor (view ws hs) → Clearing m P limit so up C all l.cursor (view vs l.space.handles))
+
+abbrev pub decreases-walk : goal.decreases-walk
+decreases-walk g l = gap_by g.T.Side.upward l.cursor l.end
