@@ -1,6 +1,9 @@
 -- The loop over the words of an object that hold values: what it passes over holds none.
-use Rattle.std.proofs.Common.{◌≡◌, ℕ, zero, suc, ◌+◌, ◌-◌, ◌<◌, ◌≤◌, Bool, true, false, not, ◌&&◌, eqb, add-zero, sym, refl, ap, ◌∙◌, subst, inl, inr, arith}
-use Rattle.std.proofs.lemmas.Bool.{both_ways, cases_lt, cases_eq, eq-eqb, ne_eqb}
+use Rattle.std.proofs.Common.{◌≡◌, ℕ, zero, suc, ◌+◌, ◌-◌, ◌%◌, ◌<◌, ◌≤◌, Bool, true, false, not, ◌&&◌, eqb, ltb, add-zero, sym, refl, ap, ◌∙◌, subst, inl, inr, arith}
+use Rattle.std.proofs.lemmas.Bool.{both_ways, cases_lt, cases_eq, eq-eqb, ne_eqb, lt-ltb}
+use Rattle.std.proofs.lemmas.Bool.Decides.{nat_tests}
+use Rattle.scheme.specs.Meaning.{Meaning}
+use Rattle.graph.specs.Places.{value_at}
 use Rattle.space.specs.declared.slot.Slots.{Slots}
 use Rattle.space.specs.Slots.{values_of, First}
 
@@ -26,6 +29,18 @@ and-no false = refl
 and-yes : (b : Bool) → (b && not false) ≡ b
 and-yes true = refl
 and-yes false = refl
+
+-- of the words of an object all values are there
+pub in_object : (all few : Slots) (size : ℕ) → size ≤ 34 → ((i : ℕ) → i < 64 → values_of few i ≡ (values_of all i && ltb i (size % 64))) → (k : ℕ) → k < size → values_of few k ≡ values_of all k
+in_object all few size most below k l = below k (omega arith) ∙ ap (λ (b : Bool). values_of all k && b) (lt-ltb k (size % 64) (omega arith)) ∙ and-true (values_of all k)
+  where
+    and-true : (b : Bool) → (b && true) ≡ b
+    and-true true = refl
+    and-true false = refl
+
+-- and its header is none
+pub header-no-value : (m : Meaning) (kind rule : ℕ) → value_at m kind rule 0 ≡ false
+header-no-value m kind rule = grind (arith, nat_tests)
 
 module _ {all left : Slots} {size : ℕ} {S : ℕ → Type 0} (w : Sweep all left size S) where
   -- the first value that is left
