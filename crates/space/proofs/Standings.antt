@@ -9,6 +9,7 @@ use Rattle.space.specs.Pass.{Plan, Here}
 use Rattle.graph.specs.Places.{records, turn_of}
 use Rattle.space.specs.Layout.{Keeps, plan}
 use Rattle.graph.proofs.Places.{turn-bounds}
+use Rattle.graph.proofs.Frame.{total-sides}
 use Rattle.space.proofs.Plans.{ends, head-of, here-at, planned, plan-handles}
 use Rattle.space.proofs.Courses.{records-course, classes-course}
 use Rattle.space.specs.Standing.{Standing, Sides}
@@ -53,6 +54,7 @@ module _ (m : Meaning) (W : ℕ) (g : Graph) (s : List Bool) (snd : Sound m W g 
         classes = classes-course m W g s s kp rest;
         records_from = refl;
         records_end = l;
+        records_fit = (let sides = total-sides g s (length g.objects) in let fit = snd.fits in omega arith);
         records_first = refl;
         records_all = λ j e. (and_parts (get_or s j false) (is_record (object_at g j)) e).0;
         classes_from = omega arith;

@@ -25,6 +25,7 @@ pub record Sides (m : Meaning) (P : Plan) (limit low high : ℕ) : Type 0 where
   pub classes : Course m P false
   pub records_from : 0 ≡ records.old 0
   pub records_end : low ≡ records.old records.many
+  pub records_fit : low ≤ limit
   pub records_first : records.num 0 ≡ 0
   pub records_all : (j : ℕ) → records.stands j ≡ true → records.kept j ≡ true
   pub classes_from : limit ≡ classes.old 0
