@@ -11,6 +11,6 @@ invariant-loop-round g l =
     let hs = l.initial.space.handles in
     let vs = g.M.Memory.words l.space.memory in
     Kept ws hs vs l.space.handles
-    × ((P : Plan) (limit : ℕ) → Standing (g.S.Scheme.meaning l.scheme) P limit → P.n ≡ length ws → Sides (g.S.Scheme.meaning l.scheme) P l.bounds.limit l.bounds.low l.bounds.high →
-    Going P limit (stage 32 nothing 16384 16384) (view ws hs) l.initial.self → count l.initial.self ≡ 0 →
-    Going P limit (stage 32 nothing 16384 (16384 - l.round)) (view vs l.space.handles) l.self × (count l.self ≡ 0))
+    × ((P : Plan) → Standing (g.S.Scheme.meaning l.scheme) P l.bounds.limit → P.n ≡ length ws → Sides (g.S.Scheme.meaning l.scheme) P l.bounds.limit l.bounds.low l.bounds.high →
+    Going P l.bounds.limit (stage 32 nothing 16384 16384) (view ws hs) l.initial.self → count l.initial.self ≡ 0 →
+    Going P l.bounds.limit (stage 32 nothing 16384 (16384 - l.round)) (view vs l.space.handles) l.self × (count l.self ≡ 0))
