@@ -1,5 +1,5 @@
 -- The reachable places are those of the reachable objects; the begin of a collection and its giving up, in the words of the graph.
-use Rattle.std.proofs.Common.{◌≡◌, ℕ, zero, suc, ◌+◌, ◌/◌, ◌%◌, ◌<◌, ◌≤◌, Bool, true, false, cond, ◌&&◌, ◌||◌, eqb, List, [], ◌++◌, length, get_or, drop, sym, refl, ap, ◌∙◌, subst, ap₂, inl, inr, add-zero, arith, length-append, take-append-drop}
+use Rattle.std.proofs.Common.{min, ◌≡◌, ℕ, zero, suc, ◌+◌, ◌/◌, ◌%◌, ◌<◌, ◌≤◌, Bool, true, false, cond, ◌&&◌, ◌||◌, eqb, List, [], ◌++◌, length, get_or, drop, sym, refl, ap, ◌∙◌, subst, ap₂, inl, inr, add-zero, arith, length-append, take-append-drop}
 use Rattle.std.proofs.lemmas.Bool.{false≢true, cases_Bool, and_parts, and_from, and_left, and_right, or_left, or_right, or_cases, cond-true, cond-false, ne_eqb, eq-eqb, eqb-true, cases_lt, cases_eq}
 use Rattle.std.proofs.lemmas.List.{get_or_past, length-map}
 use Rattle.scheme.specs.Meaning.{Meaning}
@@ -28,6 +28,7 @@ use Rattle.marking.specs.Begins.{Begins, GivesUp}
 use Rattle.graph.proofs.Totals.{total-put, total-none}
 use Rattle.marking.proofs.Rounds.{start}
 use Rattle.marking.proofs.Fades.{faded}
+use Rattle.space.proofs.Courses.{sides-fit}
 use Rattle.space.proofs.Standings.{keeps-all, standing, sides}
 use Rattle.marking.proofs.Images.{look, image-marked, marks-in, marked-image}
 
@@ -248,8 +249,10 @@ begins m W low high ws hs us is vs gs q r t none room bare k1 roots k2 settled g
       live = done.lives ∙ live_is m W g s snd lim rest (reachable g) stand (view vs gs) marks;
     }
 
-pub gives_up : (W low high : ℕ) (vs gs us is ts js : List ℕ) → UnmarkedSide true 0 low vs gs us is → Kept vs gs us is → UnmarkedSide false W high us is ts js → Kept us is ts js → GivesUp W low high vs gs ts js
-gives_up W low high vs gs us is ts js u1 k1 u2 k2 m g s k ws hs rests begun =
+-- clamped to the words, the ends of the sides are as they were
+pub gives_up : (W low high most end from : ℕ) (vs gs us is ts js : List ℕ) → most ≡ min (length vs) 16384 → end ≡ min low most → from ≡ min W most →
+    UnmarkedSide true 0 end vs gs us is → Kept vs gs us is → UnmarkedSide false from high us is ts js → Kept us is ts js → GivesUp W low high vs gs ts js
+gives_up W low high most end from vs gs us is ts js em ee ef u1 k1 u2 k2 m g s k ws hs rests begun =
     let snd = rests.sound in
     let lim = begun.keeps.limit in
     let rest = drop W ws in
@@ -257,13 +260,16 @@ gives_up W low high vs gs us is ts js u1 k1 u2 k2 m g s k ws hs rests begun =
     let st = standing m W g s snd lim rest in
     let words : view vs gs ≡ look m W g s snd lim rest k = ap₂ view begun.memory begun.handle_words_are in
     let len : P.n ≡ length vs = sym (ap length begun.memory ∙ length-append (image W g s k) rest ∙ ap (λ (n : ℕ). n + length rest) (length-image W g s k snd.fits)) in
+    let within : W ≤ most = omega (arith, em, len, lim) in
+    let end_is : end ≡ low = omega (arith, ee, within, begun.low_end_is, sides-fit m W g s k begun.keeps rest) in
+    let from_is : from ≡ W = omega (arith, ef, within) in
     let is0 : Marked P (view vs gs) = subst (Marked P) (sym words) (image-marked m W g s snd lim rest k) in
     let sd = sides m W g s snd lim rest low high begun.low_end_is begun.high_end_is in
     let f1 =
-    u1 m P W sd.records st len sd.records_from sd.records_end sd.records_all
+    u1 m P W sd.records st len sd.records_from (end_is ∙ sd.records_end) sd.records_all
     (record { is = is0; behind = λ a on. let c = (st.planned.counted a (and_parts (P.head a) (eqb (view vs gs a % 4) 3) on).0).0 in subst (λ (n : ℕ). n < P.rank a) (sym sd.records_first) c }) in
     let f2 =
-    u2 m P W sd.classes st (len ∙ sym k1.length) sd.classes_from sd.classes_end sd.classes_all
+    u2 m P W sd.classes st (len ∙ sym k1.length) (from_is ∙ sd.classes_from) sd.classes_end sd.classes_all
     (subst (λ (n : ℕ). Fading P n (view us is)) (sym sd.classes_first) f1) in
     let off = faded P (view ts js) st.planned (subst (λ (n : ℕ). Fading P n (view ts js)) sd.classes_last f2) in
     let im =

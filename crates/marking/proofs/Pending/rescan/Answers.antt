@@ -1,7 +1,7 @@
-use Rattle.std.proofs.Common.{◌≡◌, sym, ◌∙◌}
+use Rattle.std.proofs.Common.{rules, sym, ◌∙◌}
 use Rattle.std.proofs.lemmas.Bool.{eqb-true, eqb-false}
 use Rattle.space.proofs.Wovens.{kept_then}
-use Rattle.space.proofs.Cursors.{apart, bounded_next}
+use Rattle.space.proofs.Cursors.{apart}
 use Rattle.marking.proofs.Walks.{size-leads, walk_start, walk-scan, walk-skip, walk_end}
 use Rattle.marking.proofs.Pending.rescan.Goals as goal
 use Rattle.marking.proofs.Pending.rescan.Goals.{then-has_mark, else-has_mark}
@@ -17,25 +17,24 @@ walk-preserved g c =
     let hs = c.walk.space.handles in
     let next = c.next-cursor.ensures seen.leads.goes in
     let ne = apart up c.walk.cursor c.args.end (sym c.is_before.ensures ∙ c.walk-test.true) in
-    let bounded = bounded_next up _ c.walk.cursor c.next-cursor.result c.args.end o.size i.1 next in
     elim c.if-has_mark.branch [
       | then-has_mark w ↦
           let scan = w.scan.ensures in
           let drain = w.drain.ensures in
-          let mark = eqb-true _ 1 (sym c.has_mark.ensures ∙ w.if-has_mark.true) in
           rw (w.self-is, w.space-is) (
             kept_then i.0 (kept_then scan.kept drain.kept),
-            bounded,
+            search rules,
             λ P limit so C all roots rounds e f s.
-                walk-scan m P limit so up C all roots rounds ws hs (e ∙ sym i.0.length) _ _ f _ (i.2 P limit so C all roots rounds e f s) ne o seen _ next mark _ _ _ _ _ _ scan.kept scan.scanned drain.drained,
+                walk-scan m P limit so up C all roots rounds ws hs (e ∙ sym i.0.length) _ _ f _ (i.2 P limit so C all roots rounds e f s) ne o seen _ next
+                (eqb-true _ 1 (sym c.has_mark.ensures ∙ w.if-has_mark.true)) _ _ _ _ _ _ scan.kept scan.scanned drain.drained,
           )
       | else-has_mark w ↦
-          let clear = eqb-false _ 1 (sym c.has_mark.ensures ∙ w.if-has_mark.false) in
           rw (w.self-is, w.space-is) (
             i.0,
-            bounded,
+            search rules,
             λ P limit so C all roots rounds e f s.
-                walk-skip m P limit so up C all roots rounds ws hs (e ∙ sym i.0.length) _ _ f _ (i.2 P limit so C all roots rounds e f s) ne o seen _ next clear,
+                walk-skip m P limit so up C all roots rounds ws hs (e ∙ sym i.0.length) _ _ f _ (i.2 P limit so C all roots rounds e f s) ne o seen _ next
+                (eqb-false _ 1 (sym c.has_mark.ensures ∙ w.if-has_mark.false)),
           )
     ]
 

@@ -1,8 +1,8 @@
-use Rattle.std.proofs.Common.{◌≡◌, sym, refl, ◌∙◌}
+use Rattle.std.proofs.Common.{rules, sym, refl, ◌∙◌}
 use Rattle.std.proofs.lemmas.Bool.{eqb-true, eqb-false}
 use Rattle.space.proofs.Stores.{stored-word}
 use Rattle.space.proofs.Wovens.{kept_then}
-use Rattle.space.proofs.Cursors.{apart, bounded_next}
+use Rattle.space.proofs.Cursors.{apart}
 use Rattle.marking.proofs.Walks.{size-leads}
 use Rattle.marking.proofs.Fades.{seen-low, clear-start, clear-off, clear-skip, clear-end}
 use Rattle.marking.proofs.unmark.unmark_side.Goals as goal
@@ -19,23 +19,24 @@ walk-preserved g c =
     let next = c.next-cursor.ensures seen.leads.goes in
     let on = sym c.is_before.ensures ∙ c.walk-test.true in
     let ne = apart up c.walk.cursor c.args.end on in
-    let bounded = bounded_next up _ c.walk.cursor c.next-cursor.result c.args.end o.size i.1 next in
     elim c.if-has_mark.branch [
       | then-has_mark w ↦
           let low = seen-low up _ c.walk.cursor c.args.end o.size o.place i.1 on seen.leads seen.place in
           let st = stored-word ws hs o.place w.unmarked.result (g.M.Memory.words w.write_within.new.self) hs low w.write_within.ensures refl in
-          let mark = eqb-true _ 1 (sym c.has_mark.ensures ∙ w.if-has_mark.true) in
           rw w.space-is (
             kept_then i.0 st.kept,
-            bounded,
-            λ m P limit so C all e f s. clear-off m P limit so up C all ws hs (e ∙ sym i.0.length) _ _ f (i.2 m P limit so C all e f s) ne o seen _ next _ _ _ mark w.unmarked.ensures st,
+            search rules,
+            λ m P limit so C all e f s.
+                clear-off m P limit so up C all ws hs (e ∙ sym i.0.length) _ _ f (i.2 m P limit so C all e f s) ne o seen _ next _ _ _
+                (eqb-true _ 1 (sym c.has_mark.ensures ∙ w.if-has_mark.true)) w.unmarked.ensures st,
           )
       | else-has_mark w ↦
-          let clear = eqb-false _ 1 (sym c.has_mark.ensures ∙ w.if-has_mark.false) in
           rw w.space-is (
             i.0,
-            bounded,
-            λ m P limit so C all e f s. clear-skip m P limit so up C all ws hs (e ∙ sym i.0.length) _ _ f (i.2 m P limit so C all e f s) ne o seen _ next clear,
+            search rules,
+            λ m P limit so C all e f s.
+                clear-skip m P limit so up C all ws hs (e ∙ sym i.0.length) _ _ f (i.2 m P limit so C all e f s) ne o seen _ next
+                (eqb-false _ 1 (sym c.has_mark.ensures ∙ w.if-has_mark.false)),
           )
     ]
 
