@@ -1,5 +1,5 @@
 -- A cursor on its way over a side, and the new place that goes with it.
-use Rattle.std.proofs.Common.{◌≡◌, ℕ, zero, suc, ◌+◌, ◌-◌, ◌<◌, ◌≤◌, Bool, true, false, ◌⊎◌, sym, refl, ap, ◌∙◌, subst, inl, inr, arith}
+use Rattle.std.proofs.Common.{◌≡◌, ℕ, zero, suc, ◌+◌, ◌-◌, ◌<◌, ◌≤◌, Bool, true, false, sym, refl, ap, ◌∙◌, subst, inl, inr, arith}
 use Rattle.std.proofs.lemmas.Bool.{cases_eq, ltb-true, ltb-false, leb-true, false≢true}
 use Rattle.scheme.specs.Meaning.{Meaning}
 use Rattle.space.specs.Pass.{Plan, Step, Course, place_by, next_by, before, Bounded, gap_by, slides_by}

@@ -1,5 +1,5 @@
 -- The objects that a walk over a side meets.
-use Rattle.std.specs.Prelude.{◌≡◌, ℕ, ◌+◌, ◌-◌, ◌/◌, ◌%◌, ◌^◌, ◌<◌, ◌≤◌, Bool, true, false, List, Option, MatchOption, IfSome, slice_index}
+use Rattle.std.specs.Prelude.{◌≡◌, ℕ, ◌+◌, ◌%◌, ◌^◌, ◌<◌, ◌≤◌, Bool, true, false, List, Option, MatchOption, IfSome, slice_index}
 use Rattle.space.specs.Weave.{view, Heads, Unthreaded}
 use Rattle.space.specs.Pass.{Sized, size_seen, place_by}
 use Rattle.space.specs.declared.side.Object.{Object}
@@ -54,14 +54,3 @@ pub record Paid (up : Bool) (ws hs : List ℕ) (t : ℕ) (vs gs : List ℕ) (o :
 
 abbrev pub PaidFor : Bool → List ℕ → List ℕ → ℕ → List ℕ → List ℕ → Option Object → Type 0
 PaidFor up ws hs t vs gs o = IfSome o (Paid up ws hs t vs gs)
-
--- the record with that header
-pub record IsRecord (place header : ℕ) (o : Object) : Type 0 where
-  pub place_is : o.place ≡ place
-  pub size_is : o.size ≡ header / 16
-  pub header_is : o.header ≡ header
-  pub some : 0 < o.size
-
--- the size in the boundary tag before the cursor, if it leads on
-abbrev pub IsTagged : List ℕ → ℕ → Option ℕ → Type 0
-IsTagged ws c o = MatchOption o (Leads false c (slice_index ws (c - 1)) → ⊥) (λ size. (size ≡ slice_index ws (c - 1)) × (0 < size) × (size ≤ c))

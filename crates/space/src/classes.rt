@@ -1,6 +1,5 @@
 // The classes' side.
-ghost use Rattle.std.specs.Prelude.{Bool, false, length, min};
-ghost use Rattle.space.specs.Met.{Among, IsTagged};
+ghost use Rattle.std.specs.Prelude.{Bool, false};
 
 use crate::{Bounds, Object, Side, Space};
 use codec::value::to_class;
@@ -8,19 +7,6 @@ use memory::Memory;
 
 /// Classes: by their boundary tags, from the right.
 pub struct Classes;
-
-// The size of the class that ends before the cursor, by its boundary tag, if it can lie there.
-fn tag_before<M: Memory>(memory: &M, cursor: u32) -> Option<u32>
-    requires { Among false (min (length (M.Memory.words memory.now)) 16384) cursor }
-    ensures { IsTagged (M.Memory.words memory.now) cursor result }
-{
-    let size = memory.read_within(cursor as usize - 1);
-    // One test for a size of 0, and for one that goes below word 0: either way the place would not be lower.
-    if cursor.wrapping_sub(size) >= cursor {
-        return None;
-    }
-    Some(size)
-}
 
 impl Side for Classes {
     ghost upward = { false };
@@ -31,8 +17,12 @@ impl Side for Classes {
 
     #[inline(always)]
     fn see<M: Memory>(memory: &M, cursor: u32) -> Option<Object> {
-        let size = tag_before(memory, cursor)?;
-        let place = cursor - size;
+        let size = memory.read_within(cursor as usize - 1);
+        // One test for a size of 0 and for one that goes below word 0: either way the place would not be lower.
+        let place = cursor.wrapping_sub(size);
+        if place >= cursor {
+            return None;
+        }
         Some(Object {
             place,
             size,
@@ -42,8 +32,11 @@ impl Side for Classes {
 
     #[inline(always)]
     fn meet<M: Memory>(space: &mut Space<M>, cursor: u32, to: u32) -> Option<Object> {
-        let size = tag_before(&space.memory, cursor)?;
-        let place = cursor - size;
+        let size = space.memory.read_within(cursor as usize - 1);
+        let place = cursor.wrapping_sub(size);
+        if place >= cursor {
+            return None;
+        }
         Some(Object {
             place,
             size,

@@ -1,6 +1,5 @@
 // The records' side.
-ghost use Rattle.std.specs.Prelude.{◌≡◌, ◌/◌, MatchOption, Bool, true};
-ghost use Rattle.space.specs.Met.{IsRecord};
+ghost use Rattle.std.specs.Prelude.{Bool, true};
 
 use crate::{Bounds, Object, Side, Space};
 use codec::header::size_in;
@@ -9,21 +8,6 @@ use memory::Memory;
 
 /// Records: by their headers, from the left.
 pub struct Records;
-
-// The record at a place, by its header.
-fn record(place: u32, header: u32) -> Option<Object>
-    ensures { MatchOption result (header / 16 ≡ 0) (IsRecord place header) }
-{
-    let size = size_in(header);
-    if size == 0 {
-        return None;
-    }
-    Some(Object {
-        place,
-        size,
-        header,
-    })
-}
 
 impl Side for Records {
     ghost upward = { true };
@@ -34,12 +18,30 @@ impl Side for Records {
 
     #[inline(always)]
     fn see<M: Memory>(memory: &M, cursor: u32) -> Option<Object> {
-        record(cursor, memory.read_within(cursor as usize))
+        let header = memory.read_within(cursor as usize);
+        let size = size_in(header);
+        if size == 0 {
+            return None;
+        }
+        Some(Object {
+            place: cursor,
+            size,
+            header,
+        })
     }
 
     #[inline(always)]
     fn meet<M: Memory>(space: &mut Space<M>, cursor: u32, to: u32) -> Option<Object> {
-        record(cursor, space.unthread(cursor, to_record(to)))
+        let header = space.unthread(cursor, to_record(to));
+        let size = size_in(header);
+        if size == 0 {
+            return None;
+        }
+        Some(Object {
+            place: cursor,
+            size,
+            header,
+        })
     }
 
     fn place(cursor: u32, size: u32) -> u32 {

@@ -3,7 +3,7 @@ use Rattle.space.proofs.classes.ClassesSide.meet.Goals as goal
 
 pub returns-clause-paid : goal.returns-clause-paid
 returns-clause-paid g c =
-    let size = c.in_ok-size.size in
+    let size = c.read_within-size.result in
     record {
       listed = λ goes.
           let less = goes.downward refl in
