@@ -31,7 +31,12 @@ impl Side for Classes {
     }
 
     #[inline(always)]
-    fn meet<M: Memory>(space: &mut Space<M>, cursor: u32, to: u32) -> Option<Object> {
+    fn meet<M: Memory>(
+        space: &mut Space<M>,
+        limit: u32,
+        cursor: u32,
+        to: u32,
+    ) -> Option<Object> {
         let size = space.memory.read_within(cursor as usize - 1);
         let place = cursor.wrapping_sub(size);
         if place >= cursor {
@@ -40,7 +45,7 @@ impl Side for Classes {
         Some(Object {
             place,
             size,
-            header: space.unthread(place, to_class(to.wrapping_sub(size))),
+            header: space.unthread(limit, place, to_class(to.wrapping_sub(size))),
         })
     }
 

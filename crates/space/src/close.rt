@@ -21,15 +21,16 @@ impl<M: Memory> Space<M> {
     }
 
     // Goes over a side, and answers where it now ends.
-    fn close_side<T: Side>(&mut self, from: u32, end: u32) -> u32
-        requires { Bounded T.Side.upward (min (length (M.Memory.words self.old.memory)) 16384) from end }
+    fn close_side<T: Side>(&mut self, limit: u32, from: u32, end: u32) -> u32
+        requires limit { limit ≡ min (length (M.Memory.words self.old.memory)) 16384 }
+        requires ends { Bounded T.Side.upward limit from end }
         ensures closed { ClosedSide T.Side.upward (M.Memory.words self.old.memory) self.old.handles from end result (M.Memory.words self.new.memory) self.new.handles }
         ensures kept { KeptIn M.Memory.words self.old self.new }
     {
         let mut cursor = from;
         let mut to = from;
         'walk: while T::is_before(cursor, end) {
-            let Some(object) = T::meet(self, cursor, to) else {
+            let Some(object) = T::meet(self, limit, cursor, to) else {
                 break;
             };
             if has_mark(object.header) {
@@ -48,8 +49,8 @@ impl<M: Memory> Space<M> {
         ensures kept { KeptIn M.Memory.words self.old self.new }
     {
         let limit = self.limit();
-        let low = self.close_side::<Records>(0, bounds.low.min(limit));
-        let high = self.close_side::<Classes>(bounds.limit.min(limit), bounds.high);
+        let low = self.close_side::<Records>(limit, 0, bounds.low.min(limit));
+        let high = self.close_side::<Classes>(limit, bounds.limit.min(limit), bounds.high);
         self.wipe(low, high);
         Bounds {
             low,

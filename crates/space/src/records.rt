@@ -31,8 +31,13 @@ impl Side for Records {
     }
 
     #[inline(always)]
-    fn meet<M: Memory>(space: &mut Space<M>, cursor: u32, to: u32) -> Option<Object> {
-        let header = space.unthread(cursor, to_record(to));
+    fn meet<M: Memory>(
+        space: &mut Space<M>,
+        limit: u32,
+        cursor: u32,
+        to: u32,
+    ) -> Option<Object> {
+        let header = space.unthread(limit, cursor, to_record(to));
         let size = size_in(header);
         if size == 0 {
             return None;

@@ -32,8 +32,14 @@ pub trait Side {
 
     // The same where references are threaded: the list of the object is followed to its header, and each slot of it gets the reference to where the object is
     // to lie, `to` being the new cursor.
-    fn meet<M: Memory>(space: &mut Space<M>, cursor: u32, to: u32) -> Option<Object>
-        requires { Among upward (min (length (M.Memory.words space.old.memory)) 16384) cursor }
+    fn meet<M: Memory>(
+        space: &mut Space<M>,
+        limit: u32,
+        cursor: u32,
+        to: u32,
+    ) -> Option<Object>
+        requires limit { limit ≡ min (length (M.Memory.words space.old.memory)) 16384 }
+        requires cursor { Among upward limit cursor }
         ensures met { Met upward (M.Memory.words space.old.memory) space.old.handles cursor result }
         ensures paid { PaidFor upward (M.Memory.words space.old.memory) space.old.handles to (M.Memory.words space.new.memory) space.new.handles result }
         ensures kept { KeptIn M.Memory.words space.old space.new };

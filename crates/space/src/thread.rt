@@ -59,10 +59,32 @@ impl<M: Memory> Space<M> {
         }
     }
 
+    // Puts the word at an address, and gives what stood there: 0 past the last, and past the words to use.
+    #[inline(always)]
+    fn replace(&mut self, limit: u32, address: u32, word: u32) -> u32
+        requires { limit ≡ min (length (M.Memory.words self.old.memory)) 16384 }
+        ensures word { result ≡ view (M.Memory.words self.old.memory) self.old.handles address }
+        ensures stored { Stored (M.Memory.words self.old.memory) self.old.handles address word (M.Memory.words self.new.memory) self.new.handles }
+    {
+        if address < limit {
+            let old = self.memory.read_within(address as usize);
+            self.memory.write_within(address as usize, word);
+            old
+        } else if WORDS <= address && address < ADDRESSES {
+            let h = (address - WORDS) as usize;
+            let old = self.handles[h];
+            self.handles[h] = word;
+            old
+        } else {
+            0
+        }
+    }
+
     // Takes the list off the header at the place of the memory, so that it stands there again, and puts the reference into each slot of the list. Gives the header.
     #[inline(always)]
-    pub(crate) fn unthread(&mut self, place: u32, reference: u32) -> u32
-        requires { place < min (length (M.Memory.words self.old.memory)) 16384 }
+    pub(crate) fn unthread(&mut self, limit: u32, place: u32, reference: u32) -> u32
+        requires limit { limit ≡ min (length (M.Memory.words self.old.memory)) 16384 }
+        requires place { place < limit }
         ensures header { Heads (M.Memory.words self.old.memory) self.old.handles place result }
         ensures woven { (up : Bool) (q : ℕ) → (q < 16384 → reference ≡ q * 4 + tag_by up) → Unthreaded up (M.Memory.words self.old.memory) self.old.handles place q (M.Memory.words self.new.memory) self.new.handles }
         ensures none { view (M.Memory.words self.old.memory) self.old.handles place % 2 ≡ 1 → view (M.Memory.words self.new.memory) self.new.handles ≡ view (M.Memory.words self.old.memory) self.old.handles }
@@ -77,9 +99,7 @@ impl<M: Memory> Space<M> {
             if ends_list(word) {
                 break;
             }
-            let slot = address_of(word);
-            word = self.look(slot);
-            self.store(slot, reference);
+            word = self.replace(limit, address_of(word), reference);
         }
         self.fill(Slot::Word(place), word);
         word
