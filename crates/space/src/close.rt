@@ -51,7 +51,9 @@ impl<M: Memory> Space<M> {
         let limit = self.limit();
         let low = self.close_side::<Records>(limit, 0, bounds.low.min(limit));
         let high = self.close_side::<Classes>(limit, bounds.limit.min(limit), bounds.high);
-        self.wipe(low, high);
+        // The words between the sides were free, and so are 0.
+        self.wipe(low, bounds.low);
+        self.wipe(bounds.high, high);
         Bounds {
             low,
             high,
