@@ -52,11 +52,12 @@ impl<M: Memory> Space<M> {
         ensures kept { KeptIn M.Memory.words self.old self.new }
     {
         let place = place_of(word);
-        if place < limit {
-            let header = self.memory.read_within(place as usize);
-            self.fill(slot, header);
-            self.fill(Slot::Word(place), link_to(slot.address()));
+        if place >= limit {
+            return;
         }
+        let header = self.memory.read_within(place as usize);
+        self.fill(slot, header);
+        self.fill(Slot::Word(place), link_to(slot.address()));
     }
 
     // Puts the word at an address, and gives what stood there: 0 past the last, and past the words to use.
