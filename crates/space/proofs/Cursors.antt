@@ -29,6 +29,35 @@ pub closer : (b : Bool) (c c' end size : ℕ) → before b c end ≡ true → Le
 closer true c c' end size h l e = omega (arith, ltb-true c end h, l.some)
 closer false c c' end size h l e = omega (arith, ltb-true end c h, l.some, l.goes.downward refl)
 
+-- the new cursor is behind the old one, within the walk's bound
+pub record Behind (b : Bool) (limit c q : ℕ) : Type 0 where
+  pub upward : b ≡ true → q ≤ c
+  pub downward : b ≡ false → (c ≤ q) × (q ≤ limit)
+
+pub behind_start : (b : Bool) (limit c end : ℕ) → Bounded b limit c end → Behind b limit c c
+behind_start b limit c end l = record { upward = λ z. omega arith; downward = λ z. (omega arith, subst (λ (x : Bool). Bounded x limit c end) z l) }
+
+pub behind_on : (b : Bool) (limit c c' q size : ℕ) → Behind b limit c q → Leads b c size → c' ≡ next_by b c size → Behind b limit c' q
+behind_on true limit c c' q size h l e = record { upward = λ z. omega (arith, h.upward refl); downward = λ z. absurd (false≢true (sym z)) }
+behind_on false limit c c' q size h l e = record { upward = λ z. absurd (false≢true z); downward = λ z. (omega (arith, (h.downward refl).0), (h.downward refl).1) }
+
+pub behind_goes : (b : Bool) (limit c q size : ℕ) → Behind b limit c q → Leads b c size → Goes b q size
+behind_goes true limit c q size h l = record { upward = λ z. omega (arith, h.upward refl, l.goes.upward refl); downward = λ z. absurd (false≢true (sym z)) }
+behind_goes false limit c q size h l = record { upward = λ z. absurd (false≢true z); downward = λ z. omega (arith, (h.downward refl).0, l.goes.downward refl) }
+
+-- also when it goes on with it
+pub behind_both : (b : Bool) (limit c c' q q' size : ℕ) → Behind b limit c q → c' ≡ next_by b c size → q' ≡ next_by b q size → Behind b limit c' q'
+behind_both true limit c c' q q' size h e f = record { upward = λ z. omega (arith, h.upward refl); downward = λ z. absurd (false≢true (sym z)) }
+behind_both false limit c c' q q' size h e f = record { upward = λ z. absurd (false≢true z); downward = λ z. (omega (arith, (h.downward refl).0), omega (arith, (h.downward refl).1)) }
+
+-- so the new place is there, and its object fits where the old one did
+pub behind_place : (b : Bool) (limit c q p r size : ℕ) → Behind b limit c q → Among b limit c → Leads b c size → p ≡ place_by b c size → r ≡ place_by b q size → (r < limit) × (p + size ≤ limit → r + size ≤ limit)
+behind_place true limit c q p r size h a l e f = (omega (arith, h.upward refl, a.upward refl), λ z. omega (arith, h.upward refl))
+behind_place false limit c q p r size h a l e f =
+    let d = h.downward refl in
+    let g = l.goes.downward refl in
+    let some = l.some in (omega (arith, d.0, d.1, g, some), λ z. omega (arith, d.0, d.1, g))
+
 leads_by : (b : Bool) (c end size : ℕ) → 1 < size → size ≤ gap_by b c end → place_by b c size + size ≤ 16384 → Leads b c size
 leads_by true c end size h i j = record { some = omega arith; goes = record { upward = λ z. omega arith; downward = λ z. absurd (false≢true (sym z)) } }
 leads_by false c end size h i j = record { some = omega arith; goes = record { upward = λ z. absurd (false≢true z); downward = λ z. omega arith } }

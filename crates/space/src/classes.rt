@@ -31,12 +31,7 @@ impl Side for Classes {
     }
 
     #[inline(always)]
-    fn meet<M: Memory>(
-        space: &mut Space<M>,
-        limit: u32,
-        cursor: u32,
-        to: u32,
-    ) -> Option<Object> {
+    fn meet<M: Memory>(space: &mut Space<M>, limit: u32, cursor: u32, to: u32) -> Option<Object> {
         let size = space.memory.read_within(cursor as usize - 1);
         let place = cursor.wrapping_sub(size);
         if place >= cursor {

@@ -1,9 +1,10 @@
 // The backward update: records, then classes.
-ghost use Rattle.std.specs.Prelude.{◌≡◌, length, min};
+ghost use Rattle.std.specs.Prelude.{◌≡◌, ◌+◌, ◌<◌, ◌≤◌, length, min};
 ghost use Rattle.space.specs.Keeping.{KeptIn};
 ghost use Rattle.space.specs.Pass.{Bounded, Closed, ClosedSide};
 ghost use Rattle.space.specs.Collect.{Closes};
 
+use crate::thread::Slot;
 use crate::{Bounds, Classes, Object, Records, Side, Space};
 use codec::header::has_mark;
 use memory::Memory;
@@ -11,13 +12,17 @@ use memory::Memory;
 impl<M: Memory> Space<M> {
     // A marked object, whose list is taken off: it is moved and unmarked.
     #[inline(always)]
-    fn close_object(&mut self, object: Object, new_place: u32)
+    fn close_object(&mut self, limit: u32, object: Object, new_place: u32)
+        requires limit { limit ≡ min (length (M.Memory.words self.old.memory)) 16384 }
+        requires place { object.place ≤ limit }
+        requires new { new_place < limit }
+        requires slides { object.place + object.size ≤ limit → new_place + object.size ≤ limit }
         ensures closed { Closed (M.Memory.words self.old.memory) self.old.handles object.place new_place object.size object.header (M.Memory.words self.new.memory) self.new.handles }
         ensures kept { KeptIn M.Memory.words self.old self.new }
     {
-        self.slide(object.place, new_place, object.size);
+        self.slide(limit, object.place, new_place, object.size);
         // Two less: the mark. By `unmarked` it would be tested once more.
-        self.store(new_place, object.header.saturating_sub(2));
+        self.fill(Slot::Word(new_place), object.header.saturating_sub(2));
     }
 
     // Goes over a side, and answers where it now ends.
@@ -34,7 +39,7 @@ impl<M: Memory> Space<M> {
                 break;
             };
             if has_mark(object.header) {
-                self.close_object(object, T::place(to, object.size));
+                self.close_object(limit, object, T::place(to, object.size));
                 to = T::next(to, object.size);
             }
             cursor = T::next(cursor, object.size);

@@ -31,12 +31,7 @@ impl Side for Records {
     }
 
     #[inline(always)]
-    fn meet<M: Memory>(
-        space: &mut Space<M>,
-        limit: u32,
-        cursor: u32,
-        to: u32,
-    ) -> Option<Object> {
+    fn meet<M: Memory>(space: &mut Space<M>, limit: u32, cursor: u32, to: u32) -> Option<Object> {
         let header = space.unthread(limit, cursor, to_record(to));
         let size = size_in(header);
         if size == 0 {

@@ -32,12 +32,7 @@ pub trait Side {
 
     // The same where references are threaded: the list of the object is followed to its header, and each slot of it gets the reference to where the object is
     // to lie, `to` being the new cursor.
-    fn meet<M: Memory>(
-        space: &mut Space<M>,
-        limit: u32,
-        cursor: u32,
-        to: u32,
-    ) -> Option<Object>
+    fn meet<M: Memory>(space: &mut Space<M>, limit: u32, cursor: u32, to: u32) -> Option<Object>
         requires limit { limit ≡ min (length (M.Memory.words space.old.memory)) 16384 }
         requires cursor { Among upward limit cursor }
         ensures met { Met upward (M.Memory.words space.old.memory) space.old.handles cursor result }

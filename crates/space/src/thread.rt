@@ -33,7 +33,7 @@ impl Slot {
 impl<M: Memory> Space<M> {
     // Sets the word of a slot.
     #[inline(always)]
-    fn fill(&mut self, slot: Slot, word: u32)
+    pub(crate) fn fill(&mut self, slot: Slot, word: u32)
         requires { There (min (length (M.Memory.words self.old.memory)) 16384) slot }
         ensures { Stored (M.Memory.words self.old.memory) self.old.handles (address slot) word (M.Memory.words self.new.memory) self.new.handles }
     {
