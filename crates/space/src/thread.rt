@@ -53,7 +53,9 @@ impl<M: Memory> Space<M> {
     {
         let place = place_of(word);
         if place >= limit {
-            return;
+            // In wild words: there is no header, as where `look` finds none. Not left as it is, for then this test and the one for a reference are
+            // compiled into one, which costs more.
+            return self.fill(slot, 0);
         }
         let header = self.memory.read_within(place as usize);
         self.fill(slot, header);
