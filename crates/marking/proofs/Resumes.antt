@@ -1,8 +1,8 @@
 -- Where a round begins on each side: at a position of its walk behind which all its dropped objects lie.
-use Rattle.std.proofs.Common.{min, max, ◌≡◌, ℕ, zero, suc, ◌+◌, ◌-◌, ◌/◌, ◌<◌, ◌≤◌, Bool, true, false, ◌⊎◌, sym, refl, ap, ◌∙◌, subst, inl, inr, arith}
+use Rattle.std.proofs.Common.{min, max, ◌≡◌, ℕ, zero, suc, ◌+◌, ◌/◌, ◌<◌, ◌≤◌, Bool, true, false, ◌⊎◌, sym, refl, ◌∙◌, subst, inl, inr, arith}
 use Rattle.std.proofs.lemmas.Bool.{both_ways, cases_Bool, cases_lt, lt-ltb, le-leb}
 use Rattle.scheme.specs.Meaning.{Meaning}
-use Rattle.space.specs.Pass.{Plan, Planned, Step, Course, place_by}
+use Rattle.space.specs.Pass.{Plan, Planned, Course, place_by}
 use Rattle.space.specs.Standing.{Standing, Sides}
 use Rattle.marking.specs.declared.Pending.{Pending}
 use Rattle.marking.specs.Marks.{is_record_at, Dropped, RecordsFrom, ClassesFrom}

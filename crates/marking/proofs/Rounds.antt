@@ -110,13 +110,12 @@ module _ (m : Meaning) (P : Plan) (limit : ℕ) (so : Standing m P limit) where
         }
 
     -- the records are done
-    pub onwards : (a : ℕ) (look : ℕ → ℕ) (q : Pending) → a ≡ n →
-        Going P limit (stage roots (after P (round-slots n k) a) 16384 rounds) look q → Going P limit (stage roots (after P (round-slots n k) k) 16384 rounds) look q
-    onwards a look q e =
-        turn-todo P limit roots (after P (round-slots n k) a) (after P (round-slots n k) k) 16384 rounds look q (λ p x z sl rk v. inl (w a n k (P.rank x) e v))
+    pub onwards : (look : ℕ → ℕ) (q : Pending) → Going P limit (stage roots (after P (round-slots n k) n) 16384 rounds) look q → Going P limit (stage roots (after P (round-slots n k) k) 16384 rounds) look q
+    onwards look q =
+        turn-todo P limit roots (after P (round-slots n k) n) (after P (round-slots n k) k) 16384 rounds look q (λ p x z sl rk v. inl (w n k (P.rank x) v))
       where
-        w : (a n k r : ℕ) → a ≡ n → (ltb k r && (leb r n || ltb k r)) ≡ false → (ltb a r && (leb r n || ltb k r)) ≡ false
-        w a n k r e v = grind (arith, nat_tests)
+        w : (n k r : ℕ) → (ltb k r && (leb r n || ltb k r)) ≡ false → (ltb n r && (leb r n || ltb k r)) ≡ false
+        w n k r v = grind (arith, nat_tests)
 
     -- a round is over: none is to do
     pub round-end : (a : ℕ) (look : ℕ → ℕ) (q : Pending) → a ≡ P.count →

@@ -7,7 +7,7 @@ ghost use Rattle.marking.specs.Marks.{MarkedAt, Noted, Scanned, Drained, Rescann
 
 use crate::Pending;
 use arrayvec::ArrayVec;
-use codec::header::{has_mark, marked, shape_in, size_in, Shape};
+use codec::header::{Shape, has_mark, marked, shape_in, size_in};
 use codec::value::{place_of, refers};
 use memory::Memory;
 use scheme::Scheme;
