@@ -3,11 +3,11 @@ ghost use Rattle.std.specs.Prelude.{◌≡◌, ◌≤◌, length, min};
 ghost use Rattle.space.specs.Pass.{Bounded};
 ghost use Rattle.space.specs.Keeping.{KeptIn};
 ghost use Rattle.marking.specs.Begins.{Begins};
-ghost use Rattle.marking.specs.Marks.{MarkedAt, Scanned, Drained, Rescanned, Rooted, Settled};
+ghost use Rattle.marking.specs.Marks.{MarkedAt, Noted, Scanned, Drained, Rescanned, Rooted, Settled};
 
 use crate::Pending;
 use arrayvec::ArrayVec;
-use codec::header::{has_mark, marked, size_in};
+use codec::header::{Shape, has_mark, marked, shape_in, size_in};
 use codec::value::{place_of, refers};
 use memory::Memory;
 use scheme::Scheme;
@@ -29,7 +29,23 @@ impl Pending {
             space.memory.write_within(place as usize, marked(header));
             self.live = self.live.wrapping_add(size_in(header));
             if self.places.try_push(place).is_err() {
-                self.overflow = true;
+                self.note_dropped(place, header);
+            }
+        }
+    }
+
+    // Has the next round meet the object at a place, which has that header: it found no room. That is rare, so it is no part of the marking above.
+    #[cold]
+    #[inline(never)]
+    fn note_dropped(&mut self, place: u32, header: u32)
+        ensures { Noted self.old place header self.new }
+    {
+        self.overflow = true;
+        match shape_in(header) {
+            Some(Shape::Record) => self.records_from = self.records_from.min(place),
+            _ => {
+                // In wild words the end need not be a number of 32 bits.
+                self.classes_from = self.classes_from.max(place.saturating_add(size_in(header)));
             }
         }
     }
@@ -83,7 +99,7 @@ impl Pending {
         }
     }
 
-    // Scans each marked object of a side again.
+    // Scans each marked object of a side again, from one that the walk comes to on.
     fn rescan<T: Side, M: Memory, S: Scheme>(
         &mut self,
         space: &mut Space<M>,
@@ -124,7 +140,8 @@ impl Pending {
         }
     }
 
-    // Marks all that the marked objects lead to: each round over both sides goes on from the marks, and there is another while a place found no room.
+    // Marks all that the marked objects lead to: each round over both sides goes on from the marks, and there is another while a place found no room. A
+    // round begins on each side at the first dropped object, since what the walk meets before has nothing left to scan.
     fn settle<M: Memory, S: Scheme>(
         &mut self,
         space: &mut Space<M>,
@@ -142,15 +159,15 @@ impl Pending {
             if !self.overflow {
                 break;
             }
+            // Where a side has none dropped the walk begins at its end.
+            let low = bounds.low.min(limit);
+            let records_from = self.records_from.min(low);
+            let classes_from = self.classes_from.max(bounds.high).min(limit);
             self.overflow = false;
-            self.rescan::<Records, M, S>(space, scheme, limit, 0, bounds.low.min(limit));
-            self.rescan::<Classes, M, S>(
-                space,
-                scheme,
-                limit,
-                bounds.limit.min(limit),
-                bounds.high,
-            );
+            self.records_from = WORDS;
+            self.classes_from = 0;
+            self.rescan::<Records, M, S>(space, scheme, limit, records_from, low);
+            self.rescan::<Classes, M, S>(space, scheme, limit, classes_from, bounds.high);
         }
     }
 }
@@ -162,6 +179,8 @@ pub fn begin<M: Memory, S: Scheme>(space: &mut Space<M>, scheme: &S, bounds: Bou
     let mut pending = Pending {
         places: ArrayVec::new(),
         overflow: false,
+        records_from: WORDS,
+        classes_from: 0,
         live: 0,
     };
     let limit = space.limit();

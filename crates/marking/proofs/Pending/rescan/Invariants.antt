@@ -1,4 +1,4 @@
-use Rattle.std.proofs.Common.{◌≡◌, ℕ, true, length, min}
+use Rattle.std.proofs.Common.{◌≡◌, ℕ, Bool, true, length, min}
 use Rattle.space.specs.Weave.{view, Kept}
 use Rattle.space.specs.Pass.{Plan, Course, Bounded, gap_by}
 use Rattle.space.specs.Standing.{Standing}
@@ -14,8 +14,8 @@ invariant-walk g l =
     let up = g.T.Side.upward in
     Kept ws hs vs l.space.handles
     × Bounded up (min (length ws) 16384) l.cursor l.end
-    × ((P : Plan) (limit : ℕ) (so : Standing m P limit) (C : Course m P up) (all : (j : ℕ) → C.stands j ≡ true → C.kept j ≡ true) (roots rounds : ℕ) → P.n ≡ length ws → l.end ≡ C.old C.many →
-    Walking m P limit so up C all roots rounds l.initial.cursor (view ws hs) l.initial.self → Walking m P limit so up C all roots rounds l.cursor (view vs l.space.handles) l.self)
+    × ((P : Plan) (limit : ℕ) (so : Standing m P limit) (C : Course m P up) (all : (j : ℕ) → C.stands j ≡ true → C.kept j ≡ true) (chosen : ℕ → Bool) (roots rounds : ℕ) → P.n ≡ length ws → l.end ≡ C.old C.many →
+    Walking m P limit so up C all chosen roots rounds l.initial.cursor (view ws hs) l.initial.self → Walking m P limit so up C all chosen roots rounds l.cursor (view vs l.space.handles) l.self)
 
 abbrev pub decreases-walk : goal.decreases-walk
 decreases-walk g l = gap_by g.T.Side.upward l.cursor l.end
