@@ -209,9 +209,9 @@ module _ (m : Meaning) (W : ℕ) (g : Graph) (s : List Bool) (snd : Sound m W g 
 pub rest-words : (m : Meaning) (W : ℕ) (g : Graph) (s : List Bool) (ws hs : List ℕ) → Rests m W g s ws hs → ws ≡ image W g s [] ++ drop W ws
 rest-words m W g s ws hs r = sym (take-append-drop W ws) ∙ ap (λ (x : List ℕ). x ++ drop W ws) r.memory
 
-pub begins : (m : Meaning) (W low high : ℕ) (ws hs us is vs gs : List ℕ) (q r t : Pending) → count q ≡ 0 → q.overflow ≡ false → q.records_from ≡ 16384 → q.classes_from ≡ 0 → q.live ≡ 0 →
+pub begins : (m : Meaning) (W low high : ℕ) (ws hs us is vs gs : List ℕ) (q r t : Pending) → count q ≡ 0 → q.records_from ≡ 16384 → q.classes_from ≡ 0 → q.live ≡ 0 →
     Kept ws hs us is → Rooted ws hs q us is r → Kept us is vs gs → Settled m W low high us is r vs gs t → Begins m W low high ws hs vs gs t.live
-begins m W low high ws hs us is vs gs q r t none room end begin bare k1 roots k2 settled g s lim rests el eh =
+begins m W low high ws hs us is vs gs q r t none end begin bare k1 roots k2 settled g s lim rests el eh =
     let snd = rests.sound in
     let rest = drop W ws in
     let P = plan W g s s rest in
@@ -227,7 +227,7 @@ begins m W low high ws hs us is vs gs q r t none room end begin bare k1 roots k2
           let x = head-of m W g s s (keeps-all m W g s snd lim) rest a (and_parts (P.head a) (eqb (view ws hs a % 4) 3) on).0 in
           absurd (false≢true (sym (marks-in m W g s snd lim rest [] x.0 x.2) ∙ subst (λ (f : ℕ → ℕ). marked P f (place_of W g s x.0) ≡ true) words (subst (λ (p : ℕ). marked P (view ws hs) p ≡ true) x.3 on)))
     ] in
-    let rooted = roots m P W st len (start m P W st (view ws hs) q is0 fresh none room end begin bare) in
+    let rooted = roots m P W st len (start m P W st (view ws hs) q is0 fresh none end begin bare) in
     let done = settled P st (len ∙ sym k1.length) (sides m W g s snd lim rest low high el eh) rooted in
     let marks = marks-reach m W g s snd lim rest (view vs gs) t.live done in
     let im =

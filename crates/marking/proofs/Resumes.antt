@@ -1,6 +1,6 @@
 -- Where a round begins on each side: at a position of its walk behind which all its dropped objects lie.
-use Rattle.std.proofs.Common.{min, max, ◌≡◌, ℕ, zero, suc, ◌+◌, ◌/◌, ◌<◌, ◌≤◌, Bool, true, false, ◌⊎◌, sym, refl, ◌∙◌, subst, inl, inr, arith}
-use Rattle.std.proofs.lemmas.Bool.{both_ways, cases_Bool, cases_lt, lt-ltb, le-leb}
+use Rattle.std.proofs.Common.{min, max, ◌≡◌, ℕ, zero, suc, ◌+◌, ◌/◌, ◌<◌, ◌≤◌, Bool, true, false, sym, refl, ◌∙◌, subst, inl, inr, arith}
+use Rattle.std.proofs.lemmas.Bool.{both_ways, cases_lt, lt-ltb, le-leb}
 use Rattle.scheme.specs.Meaning.{Meaning}
 use Rattle.space.specs.Pass.{Plan, Planned, Course, place_by}
 use Rattle.space.specs.Standing.{Standing, Sides}
@@ -76,8 +76,15 @@ module _ (m : Meaning) (P : Plan) (limit : ℕ) (so : Standing m P limit) (low h
   pub record-rank : (p : ℕ) → P.head p ≡ true → is_record_at P p ≡ true → P.rank p ≤ R.num R.many
   record-rank p h r = elim (cases_lt (R.num R.many) (P.rank p)) [ inl l ↦ absurd (both_ways (is_record_at P p) (in-classes p h l).kind r) | inr l ↦ l ]
 
-  class-rank : (p : ℕ) → P.head p ≡ true → is_record_at P p ≡ false → R.num R.many < P.rank p
+  pub class-rank : (p : ℕ) → P.head p ≡ true → is_record_at P p ≡ false → R.num R.many < P.rank p
   class-rank p h c = elim (cases_lt (R.num R.many) (P.rank p)) [ inl l ↦ l | inr l ↦ absurd (both_ways (is_record_at P p) c (in-records p h l).kind) ]
+
+  -- each side has its objects within its ends
+  pub record-below : (p : ℕ) → P.head p ≡ true → is_record_at P p ≡ true → p < low
+  record-below p h r = let x = in-records p h (record-rank p h r) in let st = R.step x.at x.below x.here in omega (arith, x.place, st.room, st.here.some, sides.records_end)
+
+  pub class-above : (p : ℕ) → P.head p ≡ true → is_record_at P p ≡ false → high ≤ p
+  class-above p h c = let x = in-classes p h (class-rank p h c) in let st = C.step x.at x.below x.here in omega (arith, x.place, st.room, st.here.some, sides.classes_end)
 
   module _ (q : Pending) (from : ℕ) where
     pub records-resume : from ≡ min q.records_from low → RecordsFrom P q.records_from → Resumed m P true R q from
@@ -137,14 +144,3 @@ module _ (m : Meaning) (P : Plan) (limit : ℕ) (so : Standing m P limit) (low h
                     omega (arith, x.rank, y.rank, later)
               ];
         }
-
-  module _ (q : Pending) where
-    -- the number of a dropped object is that of a record behind the one walk's begin, or of a class behind the other's
-    pub dropped-rank : (a b : ℕ) → a ≤ R.num R.many →
-        ((p : ℕ) → P.head p ≡ true → is_record_at P p ≡ true → Dropped P q p → a < P.rank p) → ((p : ℕ) → P.head p ≡ true → is_record_at P p ≡ false → Dropped P q p → b < P.rank p) →
-        (p : ℕ) → P.head p ≡ true → Dropped P q p → (a < P.rank p) × ((P.rank p ≤ R.num R.many) ⊎ (b < P.rank p))
-    dropped-rank a b few f g p h d =
-        elim (cases_Bool (is_record_at P p)) [
-          | inl r ↦ (f p h r d, inl (record-rank p h r))
-          | inr c ↦ (omega (arith, few, class-rank p h c), inr (g p h c d))
-        ]

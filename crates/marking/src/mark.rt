@@ -40,7 +40,6 @@ impl Pending {
     fn note_dropped(&mut self, place: u32, header: u32)
         ensures { Noted self.old place header self.new }
     {
-        self.overflow = true;
         match shape_in(header) {
             Some(Shape::Record) => self.records_from = self.records_from.min(place),
             _ => {
@@ -154,20 +153,20 @@ impl Pending {
         ensures kept { KeptIn M.Memory.words space.old space.new }
     {
         self.drain(space, scheme, limit);
-        // Rounds are counted, since only a sound heap bounds how often the places run out.
+        let low = bounds.low.min(limit);
+        // Rounds are counted, since only a sound heap bounds how often the places run out. Classes first: they are what records name.
         for round in 0..WORDS {
-            if !self.overflow {
+            if self.classes_from > bounds.high {
+                let from = self.classes_from.min(limit);
+                self.classes_from = 0;
+                self.rescan::<Classes, M, S>(space, scheme, limit, from, bounds.high);
+            } else if self.records_from < low {
+                let from = self.records_from;
+                self.records_from = WORDS;
+                self.rescan::<Records, M, S>(space, scheme, limit, from, low);
+            } else {
                 break;
             }
-            // Where a side has none dropped the walk begins at its end.
-            let low = bounds.low.min(limit);
-            let records_from = self.records_from.min(low);
-            let classes_from = self.classes_from.max(bounds.high).min(limit);
-            self.overflow = false;
-            self.records_from = WORDS;
-            self.classes_from = 0;
-            self.rescan::<Records, M, S>(space, scheme, limit, records_from, low);
-            self.rescan::<Classes, M, S>(space, scheme, limit, classes_from, bounds.high);
         }
     }
 }
@@ -178,7 +177,6 @@ pub fn begin<M: Memory, S: Scheme>(space: &mut Space<M>, scheme: &S, bounds: Bou
 {
     let mut pending = Pending {
         places: ArrayVec::new(),
-        overflow: false,
         records_from: WORDS,
         classes_from: 0,
         live: 0,
