@@ -69,12 +69,14 @@ impl<M: Memory> Space<M> {
     pub fn slots_of<S: Scheme>(&self, scheme: &S, place: u32, header: u32) -> Slots
         ensures { Reads (S.Scheme.meaning scheme.now) (M.Memory.words self.now.memory) place header result }
     {
-        match shape_in(header) {
-            Some(Shape::Record) => Slots::of_record(scheme, self.rule_of(place)),
-            Some(Shape::Layout) => LAYOUT_SLOTS,
-            // Not in one arm with None: of such an arm the proof knows less.
-            Some(Shape::Map) => MAP_SLOTS,
-            None => MAP_SLOTS,
+        // One kind after another: of a `match` the compiler makes more tests.
+        if shape_in(header) == Some(Shape::Record) {
+            return Slots::of_record(scheme, self.rule_of(place));
+        }
+        if shape_in(header) == Some(Shape::Layout) {
+            LAYOUT_SLOTS
+        } else {
+            MAP_SLOTS
         }
     }
 }

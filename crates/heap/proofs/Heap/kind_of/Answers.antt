@@ -5,27 +5,9 @@ use Rattle.codec.specs.Kinds.{shape_number}
 use Rattle.codec.specs.declared.header.Shape.{Shape}
 use Rattle.codec.specs.declared.header.Shape.TheVariants.{Record, Layout, Map}
 use Rattle.codec.specs.contracts.header.ShapePartialEq.TheImpl.{eq-value}
+use Rattle.space.proofs.KindBits.{bits-layout, bits-other}
 use Rattle.heap.proofs.Readings.{layout_word, map_word}
 use Rattle.heap.proofs.Heap.kind_of.Goals as goal
-
--- a class's kind bits are 1 exactly where its header is a layout's
-abbrev Told : Option Shape → ℕ → Type 0
-Told r n = MatchOption r (n ≡ 3) (λ s. shape_number s ≡ n)
-
-abbrev is_layout : Option Shape → Bool
-is_layout r = option_eq eq-value.it r (Some Layout)
-
-bits-layout : (r : Option Shape) (n : ℕ) → Told r n → true ≡ is_layout r → n ≡ 1
-bits-layout None n t e = absurd (true≢false e)
-bits-layout (Some Record) n t e = absurd (true≢false e)
-bits-layout (Some Layout) n t e = sym t
-bits-layout (Some Map) n t e = absurd (true≢false e)
-
-bits-other : (r : Option Shape) (n : ℕ) → Told r n → false ≡ is_layout r → n ≡ 1 → ⊥
-bits-other None n t e one = omega (arith, t, one)
-bits-other (Some Record) n t e one = omega (arith, t, one)
-bits-other (Some Layout) n t e one = false≢true e
-bits-other (Some Map) n t e one = omega (arith, t, one)
 
 pub returns-then-eq : goal.returns-then-eq
 returns-then-eq g c gr s x st is =
