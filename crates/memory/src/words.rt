@@ -1,4 +1,7 @@
 // A memory over a slice of words.
+ghost use Rattle.std.specs.Prelude.{◌≡◌, ℕ, ◌+◌, ◌≤◌, length, slice_index};
+ghost use Rattle.memory.specs.Ranges.{shifted};
+
 use crate::Memory;
 
 /// A word of the slice is a word of the memory.
@@ -31,8 +34,16 @@ impl Memory for &mut [u32] {
     #[inline(always)]
     fn shift(&mut self, from: usize, to: usize, size: usize) {
         let len = self.len();
-        if size <= len && from <= len - size && to <= len - size {
-            self.copy_within(from..from + size, to);
+        if size <= len && from <= len - size {
+            if to <= from && size <= from - to {
+                move_down(&mut self[to..from + size], from - to, size);
+            } else if to <= len - size {
+                if from + size <= to {
+                    move_up(&mut self[from..to + size], to - from, size);
+                } else {
+                    move_near(self, from, to, size);
+                }
+            }
         }
     }
 
@@ -42,4 +53,48 @@ impl Memory for &mut [u32] {
             self[from..end].fill(0);
         }
     }
+}
+
+// The last words, so many, over the first.
+#[inline(always)]
+fn move_down(words: &mut [u32], gap: usize, size: usize)
+    requires apart { size ≤ gap }
+    requires whole { gap + size ≡ length words.old }
+    ensures length { length words.new ≡ length words.old }
+    ensures words { (k : ℕ) → slice_index words.new k ≡ shifted words.old gap 0 size k }
+{
+    let (first, last) = words.split_at_mut(gap);
+    copy(&mut first[..size], last);
+}
+
+// The first words, so many, over the last.
+#[inline(always)]
+fn move_up(words: &mut [u32], gap: usize, size: usize)
+    requires apart { size ≤ gap }
+    requires whole { gap + size ≡ length words.old }
+    ensures length { length words.new ≡ length words.old }
+    ensures words { (k : ℕ) → slice_index words.new k ≡ shifted words.old 0 gap size k }
+{
+    let (first, last) = words.split_at_mut(gap);
+    copy(last, &first[..size]);
+}
+
+// Words that lie apart go in one `memmove`, which a `copy_within` does not become.
+#[inline(never)]
+fn copy(to: &mut [u32], from: &[u32])
+    requires { length to.old ≡ length from.now }
+    ensures { to.new ≡ from.now }
+{
+    to.copy_from_slice(from);
+}
+
+// Words that overlap those they are moved over: out of line, so that `shift` stays short where it is inlined.
+#[inline(never)]
+fn move_near(words: &mut [u32], from: usize, to: usize, size: usize)
+    requires from_in { from + size ≤ length words.old }
+    requires to_in { to + size ≤ length words.old }
+    ensures length { length words.new ≡ length words.old }
+    ensures words { (k : ℕ) → slice_index words.new k ≡ shifted words.old from to size k }
+{
+    words.copy_within(from..from + size, to);
 }
