@@ -1,4 +1,4 @@
-// The marking of objects, by pending places and, where these overflow, by scans of both sides.
+// The marking of objects, by pending places and, where these run out, by scans of the sides.
 ghost use Rattle.std.specs.Prelude.{◌≡◌, ◌≤◌, length, min};
 ghost use Rattle.space.specs.Pass.{Bounded};
 ghost use Rattle.space.specs.Keeping.{KeptIn};
@@ -26,7 +26,9 @@ impl Pending {
         }
         let header = space.memory.read_within(place as usize);
         if !has_mark(header) {
-            space.memory.write_within(place as usize, marked(header));
+            // The new header alone is used on, so that the old one need not be kept for what is rare.
+            let header = marked(header);
+            space.memory.write_within(place as usize, header);
             self.live = self.live.wrapping_add(size_in(header));
             if self.places.try_push(place).is_err() {
                 self.note_dropped(place, header);
@@ -139,8 +141,8 @@ impl Pending {
         }
     }
 
-    // Marks all that the marked objects lead to: each round over both sides goes on from the marks, and there is another while a place found no room. A
-    // round begins on each side at the first dropped object, since what the walk meets before has nothing left to scan.
+    // Marks all that the marked objects lead to: each round over a side goes on from the marks, and there is another while an object is dropped. It begins at
+    // the first dropped object of the side, since what the walk meets before has nothing left to scan.
     fn settle<M: Memory, S: Scheme>(
         &mut self,
         space: &mut Space<M>,
