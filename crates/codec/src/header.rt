@@ -2,6 +2,7 @@
 ghost use Rattle.std.specs.Prelude.{◌≡◌, ℕ, ◌+◌, ◌-◌, ◌*◌, ◌/◌, ◌%◌, ◌<◌, ◌≤◌, Bool, false, if◌then◌else◌, ◌==◌, nat_eq, MatchOption};
 ghost use Rattle.graph.specs.Words.{header};
 ghost use Rattle.codec.specs.Kinds.{shape_number};
+ghost use Rattle.codec.specs.declared.header.Shape.TheVariants.{Record};
 
 /// What kind of object a header stands before.
 #[derive(Clone, Copy, PartialEq, Eq, Debug)]
@@ -50,6 +51,13 @@ pub fn shape_in(header: u32) -> Option<Shape>
         2 => Some(Shape::Map),
         _ => None,
     }
+}
+
+/// Whether the object is a record.
+pub fn is_record(header: u32) -> bool
+    ensures { result ≡ (header / 4 % 4 == shape_number Record) }
+{
+    header / 4 % 4 == 0
 }
 
 /// Whether the word is the header of a marked object.

@@ -71,7 +71,7 @@ impl Pending {
         if size > limit - place {
             return;
         }
-        let mut left = space.slots_of(scheme, place, header).below(size);
+        let mut left = space.slots_of(scheme, limit, place, header).below(size);
         // By number: each word is read from a space that marking alters.
         while let Some(i) = left.pop_first() {
             let word = space.memory.read_within((place + i) as usize);

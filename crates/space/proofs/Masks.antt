@@ -1,13 +1,14 @@
 -- The bits that say which words of an object hold values.
-use Rattle.std.proofs.Common.{◌≡◌, ℕ, ◌+◌, ◌*◌, ◌-◌, ◌/◌, ◌%◌, ◌^◌, ◌<◌, ◌≤◌, ◌&&◌, ◌||◌, eqb, ltb, leb, List, bit_and, w64, ap, ◌∙◌, inl, inr, arith}
+use Rattle.std.proofs.Common.{◌≡◌, ℕ, ◌+◌, ◌*◌, ◌-◌, ◌/◌, ◌%◌, ◌^◌, ◌<◌, ◌≤◌, zero, suc, false, ◌&&◌, ◌||◌, eqb, ltb, leb, List, slice_index, bit_and, w64, refl, sym, ap, ◌∙◌, inl, inr, arith}
 use Rattle.std.proofs.lemmas.Nat.{and_le_l}
 use Rattle.std.proofs.lemmas.Nat.Bits.{bit_at_and, bit_at_ones, bit_at_ones_above, bit_at_not, bit_at_cat_low, bit_at_cat_high, bit_at_above, bit_at_mask_inside, bit_at_mask_below, bit_at_mask_above, bit_at-lt, bit_at_clear_same, bit_at_clear_other, bit_at-trailing_zeros}
-use Rattle.std.proofs.lemmas.Bool.{cases_lt, cases_eq, eq-eqb, ne_eqb}
+use Rattle.std.proofs.lemmas.Bool.{cases_lt, cases_eq, eq-eqb, eqb-false, ne_eqb}
 use Rattle.std.proofs.lemmas.Bool.Decides.{nat_tests}
 use Rattle.std.specs.Int.{bit_at, bit_not, trailing_zeros}
 use Rattle.scheme.specs.Meaning.{Meaning, is_raw}
 use Rattle.graph.specs.Places.{value_at}
-use Rattle.space.specs.Slots.{Reads, First}
+use Rattle.space.specs.Pass.{rule_at}
+use Rattle.space.specs.Slots.{values_of, Reads, First}
 use Rattle.space.specs.declared.slot.Slots.{Slots}
 
 -- the bits from lo up to hi
@@ -22,15 +23,22 @@ block lo hi j le =
           ]
     ]
 
--- a layout's map; no rule applies to it, so any will do
-pub layout-reads : (m : Meaning) (ws : List ℕ) (p h : ℕ) → h / 4 % 4 ≡ 1 → Reads m ws p h (record { values = 4 })
-layout-reads m ws p h e =
-    record { rule = 0; ruled = λ z. absurd (omega arith); values = λ i _. block 2 3 i (omega arith) ∙ grind (arith, nat_tests) }
+-- a layout's map
+layout-bits : (m : Meaning) (k r i : ℕ) → k ≡ 1 → eqb (4 / 2 ^ i % 2) 1 ≡ value_at m k r i
+layout-bits m k r i e = block 2 3 i (omega arith) ∙ grind (arith, nat_tests)
 
 -- a map's name and parent
-pub map-reads : (m : Meaning) (ws : List ℕ) (p h : ℕ) → 2 ≤ h / 4 % 4 → Reads m ws p h (record { values = 12 })
-map-reads m ws p h le =
-    record { rule = 0; ruled = λ z. absurd (omega arith); values = λ i _. block 2 4 i (omega arith) ∙ grind (arith, nat_tests) }
+map-bits : (m : Meaning) (k r i : ℕ) → 2 ≤ k → eqb (12 / 2 ^ i % 2) 1 ≡ value_at m k r i
+map-bits m k r i le = block 2 4 i (omega arith) ∙ grind (arith, nat_tests)
+
+-- the bits of either, which bit 3 of the header tells apart
+pub class-bits : (m : Meaning) (h r i : ℕ) → eqb (h / 4 % 4) 0 ≡ false → eqb ((h / 8 % 2 * 8 + 4) / 2 ^ i % 2) 1 ≡ value_at m (h / 4 % 4) r i
+class-bits m h r i ne = go (h / 8 % 2) refl
+  where
+    go : (b : ℕ) → h / 8 % 2 ≡ b → eqb ((b * 8 + 4) / 2 ^ i % 2) 1 ≡ value_at m (h / 4 % 4) r i
+    go zero e = layout-bits m (h / 4 % 4) r i (omega (arith, e, eqb-false _ 0 ne))
+    go (suc zero) e = map-bits m (h / 4 % 4) r i (omega (arith, e))
+    go (suc (suc b)) e = absurd (omega (arith, e))
 
 -- the bits of a record's raw fields, past which there are none
 raw-bits : (m : Meaning) (r raw k : ℕ) → raw < 2 ^ 32 → ((i : ℕ) → i < 32 → eqb (raw / 2 ^ i % 2) 1 ≡ is_raw m r i) →
@@ -96,3 +104,14 @@ First-lowest s pos fits =
         | inr ne ↦ omega (arith, and_le_l s.values (bit_not w64 (1 * 2 ^ k % 2 ^ 64)))
       ];
     }
+
+-- the slots of an object by its kind
+pub record-reads : (m : Meaning) (ws : List ℕ) (p h : ℕ) (s : Slots) → h / 4 % 4 ≡ 0 →
+    ((i : ℕ) → i < 64 → values_of s i ≡ value_at m 0 (rule_at (slice_index ws) p) i) → Reads m ws p h s
+record-reads m ws p h s e all =
+    record { rule = rule_at (slice_index ws) p; ruled = λ _. refl; values = λ i l. all i l ∙ ap (λ (k : ℕ). value_at m k (rule_at (slice_index ws) p) i) (sym e) }
+
+-- of a class no rule applies, so any will do
+pub class-reads : (m : Meaning) (ws : List ℕ) (p h : ℕ) (s : Slots) → eqb (h / 4 % 4) 0 ≡ false →
+    ((m : Meaning) (r i : ℕ) → eqb (h / 4 % 4) 0 ≡ false → i < 64 → values_of s i ≡ value_at m (h / 4 % 4) r i) → Reads m ws p h s
+class-reads m ws p h s ne all = record { rule = 0; ruled = λ z. absurd (eqb-false _ 0 ne z); values = λ i l. all m 0 i ne l }

@@ -1,9 +1,11 @@
 // The classes' side.
 ghost use Rattle.std.specs.Prelude.{Bool, false};
 
-use crate::{Bounds, Object, Side, Space};
+use crate::slot::slots_of_class;
+use crate::{Bounds, Object, Side, Slots, Space};
 use codec::value::to_class;
 use memory::Memory;
+use scheme::Scheme;
 
 /// Classes: by their boundary tags, from the right.
 pub struct Classes;
@@ -42,6 +44,15 @@ impl Side for Classes {
             size,
             header: space.unthread(limit, place, to_class(to.wrapping_sub(size))),
         })
+    }
+
+    fn fits(limit: u32, object: Object) -> bool {
+        true
+    }
+
+    #[inline(always)]
+    fn slots<M: Memory, S: Scheme>(space: &Space<M>, scheme: &S, limit: u32, object: Object) -> Slots {
+        slots_of_class(object.header)
     }
 
     fn place(cursor: u32, size: u32) -> u32 {

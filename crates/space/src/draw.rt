@@ -1,5 +1,5 @@
 // The forward update: handles, then records, then classes.
-ghost use Rattle.std.specs.Prelude.{◌≡◌, ◌+◌, ◌/◌, ◌%◌, ◌≤◌, length, min};
+ghost use Rattle.std.specs.Prelude.{◌≡◌, ◌+◌, ◌/◌, ◌%◌, ◌≤◌, false, length, min};
 ghost use Rattle.space.specs.Keeping.{KeptIn};
 ghost use Rattle.space.specs.Pass.{ThreadedWords, ThreadedHandles, Visited, DrawnSide, Bounded};
 ghost use Rattle.space.specs.Slots.{values_of};
@@ -47,15 +47,16 @@ impl<M: Memory> Space<M> {
 
     // A marked object, whose list is taken off: its references are threaded.
     #[inline(always)]
-    fn visit<S: Scheme>(&mut self, scheme: &S, limit: u32, object: Object)
+    fn visit<T: Side, S: Scheme>(&mut self, scheme: &S, limit: u32, object: Object)
         requires limit { limit ≡ min (length (M.Memory.words self.old.memory)) 16384 }
         requires place { object.place ≤ limit }
-        ensures visited { Visited (S.Scheme.meaning scheme.now) (M.Memory.words self.old.memory) self.old.handles object.place object.size (object.header / 4 % 4) (M.Memory.words self.new.memory) self.new.handles }
+        requires down { T.Side.upward ≡ false → object.place + object.size ≤ limit }
+        ensures visited { Visited (S.Scheme.meaning scheme.now) T.Side.upward (M.Memory.words self.old.memory) self.old.handles object.place object.size (object.header / 4 % 4) (M.Memory.words self.new.memory) self.new.handles }
         ensures kept { KeptIn M.Memory.words self.old self.new }
     {
         // In wild words it need not end within the heap's.
-        if object.size <= limit - object.place {
-            let slots = self.slots_of(scheme, object.place, object.header);
+        if T::fits(limit, object) {
+            let slots = T::slots(self, scheme, limit, object);
             self.thread_words(limit, object.place, object.size, slots);
         }
     }
@@ -74,7 +75,7 @@ impl<M: Memory> Space<M> {
                 break;
             };
             if has_mark(object.header) {
-                self.visit(scheme, limit, object);
+                self.visit::<T, S>(scheme, limit, object);
                 to = T::next(to, object.size);
             }
             cursor = T::next(cursor, object.size);

@@ -1,10 +1,11 @@
 // The records' side.
 ghost use Rattle.std.specs.Prelude.{Bool, true};
 
-use crate::{Bounds, Object, Side, Space};
+use crate::{Bounds, Object, Side, Slots, Space};
 use codec::header::size_in;
 use codec::value::to_record;
 use memory::Memory;
+use scheme::Scheme;
 
 /// Records: by their headers, from the left.
 pub struct Records;
@@ -42,6 +43,15 @@ impl Side for Records {
             size,
             header,
         })
+    }
+
+    fn fits(limit: u32, object: Object) -> bool {
+        object.size <= limit - object.place
+    }
+
+    #[inline(always)]
+    fn slots<M: Memory, S: Scheme>(space: &Space<M>, scheme: &S, limit: u32, object: Object) -> Slots {
+        space.slots_of_record(scheme, limit, object.place)
     }
 
     fn place(cursor: u32, size: u32) -> u32 {

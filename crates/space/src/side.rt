@@ -1,12 +1,14 @@
 // The two sides of a heap: records from the left by their headers, classes from the right by their boundary tags.
-ghost use Rattle.std.specs.Prelude.{◌≡◌, ◌+◌, ◌*◌, ◌^◌, ◌<◌, ◌≤◌, Bool, length, min};
+ghost use Rattle.std.specs.Prelude.{◌≡◌, ◌+◌, ◌*◌, ◌/◌, ◌%◌, ◌^◌, ◌<◌, ◌≤◌, ◌==◌, Bool, false, length, min, nat_le};
 ghost use Rattle.space.specs.Ends.{innermost, taken, tag_by};
 ghost use Rattle.space.specs.Pass.{place_by, next_by, before};
 ghost use Rattle.space.specs.Keeping.{KeptIn};
+ghost use Rattle.space.specs.Slots.{Reads};
 ghost use Rattle.space.specs.Met.{Among, Goes, Sees, Met, PaidFor};
 
-use crate::{Bounds, Space};
+use crate::{Bounds, Slots, Space};
 use memory::Memory;
+use scheme::Scheme;
 
 /// An object as a walk meets it: where it lies, how many words it takes, and the header at the end of its list.
 // That it lies within the words is no fact of the type: in wild words it need not.
@@ -38,6 +40,18 @@ pub trait Side {
         ensures met { Met upward (M.Memory.words space.old.memory) space.old.handles cursor result }
         ensures paid { PaidFor upward (M.Memory.words space.old.memory) space.old.handles to (M.Memory.words space.new.memory) space.new.handles result }
         ensures kept { KeptIn M.Memory.words space.old space.new };
+
+    // Whether the object ends within the words to use. Going down it does, since the cursor stood at its end.
+    fn fits(limit: u32, object: Object) -> bool
+        requires place { object.place ≤ limit }
+        requires down { upward ≡ false → object.place + object.size ≤ limit }
+        ensures { result ≡ nat_le (object.place + object.size) limit };
+
+    // Which words of an object of the side hold values.
+    fn slots<M: Memory, S: Scheme>(space: &Space<M>, scheme: &S, limit: u32, object: Object) -> Slots
+        requires limit { limit ≡ min (length (M.Memory.words space.now.memory)) 16384 }
+        requires place { object.place ≤ limit }
+        ensures { (object.header / 4 % 4 == 0) ≡ upward → Reads (S.Scheme.meaning scheme.now) (M.Memory.words space.now.memory) object.place object.header result };
 
     // Where an object of that size lies.
     fn place(cursor: u32, size: u32) -> u32

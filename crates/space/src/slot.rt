@@ -1,11 +1,12 @@
 // Which words of an object hold values, and so may refer to another object.
-ghost use Rattle.std.specs.Prelude.{◌≡◌, ℕ, ◌%◌, ◌<◌, ◌&&◌, nat_lt, slice_index};
+ghost use Rattle.std.specs.Prelude.{◌≡◌, ℕ, ◌/◌, ◌%◌, ◌<◌, ◌≤◌, ◌==◌, ◌&&◌, false, IfSome, length, min, nat_lt, slice_index};
+ghost use Rattle.scheme.specs.Meaning.{Meaning};
 ghost use Rattle.graph.specs.Places.{value_at};
 ghost use Rattle.space.specs.Pass.{rule_at};
 ghost use Rattle.space.specs.Slots.{values_of, Popped, Reads};
 
 use crate::Space;
-use codec::header::{Shape, shape_in};
+use codec::header::is_record;
 use codec::value::place_of;
 use memory::Memory;
 use scheme::Scheme;
@@ -15,11 +16,6 @@ use scheme::Scheme;
 pub struct Slots {
     values: u64,
 }
-
-// Of a layout its map, of a map its name and its parent.
-const LAYOUT_SLOTS: Slots = Slots { values: 0b100 };
-
-const MAP_SLOTS: Slots = Slots { values: 0b1100 };
 
 impl Slots {
     // Of a record all but its header and its raw fields.
@@ -55,9 +51,44 @@ impl Slots {
     }
 }
 
+// Of a layout its map, of a map its name and its parent: word 2, and of a map word 3 too, whose bit 3 of the header is set. Both at once, with nothing to test.
+pub(crate) fn slots_of_class(header: u32) -> Slots
+    ensures { (m : Meaning) (r i : ℕ) → (header / 4 % 4 == 0) ≡ false → i < 64 → values_of result i ≡ value_at m (header / 4 % 4) r i }
+{
+    Slots {
+        values: u64::from(header / 8 % 2) * 8 + 4,
+    }
+}
+
 impl<M: Memory> Space<M> {
-    /// The rule of the record at the place, through its layout and map. All three are words of the memory.
-    pub fn rule_of(&self, place: u32) -> u32
+    // The word at a place, if that is one of those to use.
+    #[inline(always)]
+    fn word_within(&self, limit: u32, place: u32) -> Option<u32>
+        requires { limit ≡ min (length (M.Memory.words self.now.memory)) 16384 }
+        ensures { IfSome result (λ w. w ≡ slice_index (M.Memory.words self.now.memory) place) }
+    {
+        if place >= limit {
+            return None;
+        }
+        Some(self.memory.read_within(place as usize))
+    }
+
+    // The rule of the record at the place, if all words on the way to it are to use.
+    #[inline(always)]
+    fn rule_within(&self, limit: u32, place: u32) -> Option<u32>
+        requires limit { limit ≡ min (length (M.Memory.words self.now.memory)) 16384 }
+        requires place { place ≤ limit }
+        ensures { IfSome result (λ r. r ≡ rule_at (slice_index (M.Memory.words self.now.memory)) place) }
+    {
+        let layout = self.word_within(limit, place + 1)?;
+        let map = self.word_within(limit, place_of(layout) + 2)?;
+        self.word_within(limit, place_of(map) + 1)
+    }
+
+    // The same over any words. Only in wild ones it is called, so it is out of line.
+    #[cold]
+    #[inline(never)]
+    fn rule_beyond(&self, place: u32) -> u32
         ensures { result ≡ rule_at (slice_index (M.Memory.words self.now.memory)) place }
     {
         let layout = self.memory.read(place as usize + 1);
@@ -65,18 +96,40 @@ impl<M: Memory> Space<M> {
         self.memory.read(place_of(map) as usize + 1)
     }
 
+    /// The rule of the record at the place, through its layout and map.
+    #[inline(always)]
+    pub fn rule_of(&self, limit: u32, place: u32) -> u32
+        requires limit { limit ≡ min (length (M.Memory.words self.now.memory)) 16384 }
+        requires place { place ≤ limit }
+        ensures { result ≡ rule_at (slice_index (M.Memory.words self.now.memory)) place }
+    {
+        match self.rule_within(limit, place) {
+            Some(rule) => rule,
+            None => self.rule_beyond(place),
+        }
+    }
+
+    // Which words of the record at the place hold values.
+    #[inline(always)]
+    pub(crate) fn slots_of_record<S: Scheme>(&self, scheme: &S, limit: u32, place: u32) -> Slots
+        requires limit { limit ≡ min (length (M.Memory.words self.now.memory)) 16384 }
+        requires place { place ≤ limit }
+        ensures { (i : ℕ) → i < 64 → values_of result i ≡ value_at (S.Scheme.meaning scheme.now) 0 (rule_at (slice_index (M.Memory.words self.now.memory)) place) i }
+    {
+        Slots::of_record(scheme, self.rule_of(limit, place))
+    }
+
     /// Which words of the object at the place hold values; it has that header. Bits that are no kind's are read as a map's.
-    pub fn slots_of<S: Scheme>(&self, scheme: &S, place: u32, header: u32) -> Slots
+    #[inline(always)]
+    pub fn slots_of<S: Scheme>(&self, scheme: &S, limit: u32, place: u32, header: u32) -> Slots
+        requires limit { limit ≡ min (length (M.Memory.words self.now.memory)) 16384 }
+        requires place { place ≤ limit }
         ensures { Reads (S.Scheme.meaning scheme.now) (M.Memory.words self.now.memory) place header result }
     {
-        // One kind after another: of a `match` the compiler makes more tests.
-        if shape_in(header) == Some(Shape::Record) {
-            return Slots::of_record(scheme, self.rule_of(place));
-        }
-        if shape_in(header) == Some(Shape::Layout) {
-            LAYOUT_SLOTS
+        if is_record(header) {
+            self.slots_of_record(scheme, limit, place)
         } else {
-            MAP_SLOTS
+            slots_of_class(header)
         }
     }
 }

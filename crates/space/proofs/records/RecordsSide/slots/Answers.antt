@@ -1,0 +1,8 @@
+use Rattle.std.proofs.Common.{ℕ, ◌/◌, ◌%◌, sym, refl, ap, ◌∙◌}
+use Rattle.std.proofs.lemmas.Bool.{eqb-true}
+use Rattle.graph.specs.Places.{value_at}
+use Rattle.space.proofs.Masks.{record-reads}
+use Rattle.space.proofs.records.RecordsSide.slots.Goals as goal
+
+pub returns : goal.returns
+returns g c = λ e. record-reads _ _ _ _ _ (eqb-true _ 0 e) c.slots_of_record.ensures
