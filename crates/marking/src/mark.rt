@@ -11,7 +11,7 @@ use codec::header::{Shape, has_mark, marked, shape_in, size_in};
 use codec::value::{place_of, refers};
 use memory::Memory;
 use scheme::Scheme;
-use space::{Bounds, Classes, Records, Side, Space, WORDS};
+use space::{Bounds, Classes, Records, Side, Slots, Space, WORDS};
 
 impl Pending {
     // Marks the object at a place, and keeps the place while there is room. The limit is that of the words to use.
@@ -133,11 +133,9 @@ impl Pending {
         ensures rooted { Rooted (M.Memory.words space.old.memory) space.old.handles self.old (M.Memory.words space.new.memory) space.new.handles self.new }
         ensures kept { KeptIn M.Memory.words space.old space.new }
     {
-        let table = space.handles;
-        for word in table.iter() {
-            if refers(*word) {
-                self.mark_at(space, limit, place_of(*word));
-            }
+        let mut left = Slots::of_handles(&space.handles);
+        while let Some(h) = left.pop_first() {
+            self.mark_at(space, limit, place_of(space.handles[h as usize]));
         }
     }
 

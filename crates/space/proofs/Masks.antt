@@ -1,8 +1,8 @@
 -- The bits that say which words of an object hold values.
-use Rattle.std.proofs.Common.{◌≡◌, ℕ, ◌+◌, ◌*◌, ◌-◌, ◌/◌, ◌%◌, ◌^◌, ◌<◌, ◌≤◌, zero, suc, false, ◌&&◌, ◌||◌, eqb, ltb, leb, List, slice_index, bit_and, w64, refl, sym, ap, ◌∙◌, inl, inr, arith}
+use Rattle.std.proofs.Common.{◌≡◌, ℕ, ◌+◌, ◌*◌, ◌-◌, ◌/◌, ◌%◌, ◌^◌, ◌<◌, ◌≤◌, zero, suc, Bool, true, false, ◌&&◌, ◌||◌, eqb, ltb, leb, List, slice_index, bit_and, bit_or, w32, w64, refl, sym, ap, ◌∙◌, inl, inr, arith}
 use Rattle.std.proofs.lemmas.Nat.{and_le_l}
-use Rattle.std.proofs.lemmas.Nat.Bits.{bit_at_and, bit_at_ones, bit_at_ones_above, bit_at_not, bit_at_cat_low, bit_at_cat_high, bit_at_above, bit_at_mask_inside, bit_at_mask_below, bit_at_mask_above, bit_at-lt, bit_at_clear_same, bit_at_clear_other, bit_at-trailing_zeros}
-use Rattle.std.proofs.lemmas.Bool.{cases_lt, cases_eq, eq-eqb, eqb-false, ne_eqb}
+use Rattle.std.proofs.lemmas.Nat.Bits.{bit_at_and, bit_at_ones, bit_at_ones_above, bit_at_not, bit_at_cat_low, bit_at_cat_high, bit_at_above, bit_at_mask_inside, bit_at_mask_below, bit_at_mask_above, bit_at-lt, bit_at_set_same, bit_at_set_other, bit_at_clear_same, bit_at_clear_other, bit_at-trailing_zeros}
+use Rattle.std.proofs.lemmas.Bool.{cases_lt, cases_eq, eq-eqb, eqb-false, ne_eqb, lt-ltb}
 use Rattle.std.proofs.lemmas.Bool.Decides.{nat_tests}
 use Rattle.std.specs.Int.{bit_at, bit_not, trailing_zeros}
 use Rattle.scheme.specs.Meaning.{Meaning, is_raw}
@@ -115,3 +115,31 @@ record-reads m ws p h s e all =
 pub class-reads : (m : Meaning) (ws : List ℕ) (p h : ℕ) (s : Slots) → eqb (h / 4 % 4) 0 ≡ false →
     ((m : Meaning) (r i : ℕ) → eqb (h / 4 % 4) 0 ≡ false → i < 64 → values_of s i ≡ value_at m (h / 4 % 4) r i) → Reads m ws p h s
 class-reads m ws p h s ne all = record { rule = 0; ruled = λ z. absurd (eqb-false _ 0 ne z); values = λ i l. all m 0 i ne l }
+
+-- The bits of a set are gathered one after another: of the numbers below i they tell f.
+abbrev pub Gathered : (ℕ → Bool) → ℕ → ℕ → Type 0
+Gathered f v i = (k : ℕ) → k < 32 → eqb (v / 2 ^ k % 2) 1 ≡ (ltb k i && f k)
+
+at-next : (f : ℕ → Bool) (i : ℕ) → (ltb i (i + 1) && f i) ≡ f i
+at-next f i = ap (λ (b : Bool). b && f i) (lt-ltb i (i + 1) (omega arith))
+
+below-next : (f : ℕ → Bool) (k i : ℕ) → (k ≡ i → ⊥) → (ltb k i && f k) ≡ (ltb k (i + 1) && f k)
+below-next f k i n = let e : ltb k i ≡ ltb k (i + 1) = grind (arith, nat_tests) in ap (λ (b : Bool). b && f k) e
+
+pub gather-one : (f : ℕ → Bool) (v i : ℕ) → f i ≡ true → i < 32 → Gathered f v i → Gathered f (bit_or v (1 * 2 ^ i % 2 ^ 32)) (i + 1)
+gather-one f v i e h all k l =
+    elim (cases_eq k i) [
+      | inl z ↦ rw z (ap (λ (x : ℕ). eqb x 1) (bit_at_set_same w32 v i h) ∙ sym (at-next f i ∙ e))
+      | inr n ↦ ap (λ (x : ℕ). eqb x 1) (bit_at_set_other w32 v i h k n) ∙ all k l ∙ below-next f k i n
+    ]
+
+pub gather-none : (f : ℕ → Bool) (v i : ℕ) → f i ≡ false → i < 32 → Gathered f v i → Gathered f v (i + 1)
+gather-none f v i e h all k l =
+    elim (cases_eq k i) [
+      | inl z ↦ rw z (all i h ∙ ap (λ (b : Bool). ltb i i && b) e ∙ and-none (ltb i i) ∙ sym (at-next f i ∙ e))
+      | inr n ↦ all k l ∙ below-next f k i n
+    ]
+  where
+    and-none : (b : Bool) → (b && false) ≡ false
+    and-none true = refl
+    and-none false = refl

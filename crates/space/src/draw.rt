@@ -37,11 +37,10 @@ impl<M: Memory> Space<M> {
         ensures threaded { ThreadedHandles (M.Memory.words self.old.memory) self.old.handles (M.Memory.words self.new.memory) self.new.handles }
         ensures kept { KeptIn M.Memory.words self.old self.new }
     {
-        let table = self.handles;
-        for (h, word) in table.iter().enumerate() {
-            if refers(*word) {
-                self.thread(limit, Slot::Handle(h as u32), *word);
-            }
+        let mut left = Slots::of_handles(&self.handles);
+        while let Some(h) = left.pop_first() {
+            let word = self.handles[h as usize];
+            self.thread(limit, Slot::Handle(h), word);
         }
     }
 

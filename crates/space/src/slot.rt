@@ -1,13 +1,13 @@
 // Which words of an object hold values, and so may refer to another object.
 ghost use Rattle.std.specs.Prelude.{◌≡◌, ℕ, ◌/◌, ◌%◌, ◌<◌, ◌≤◌, ◌==◌, ◌&&◌, false, IfSome, length, min, nat_lt, slice_index};
 ghost use Rattle.scheme.specs.Meaning.{Meaning};
-ghost use Rattle.graph.specs.Places.{value_at};
+ghost use Rattle.graph.specs.Places.{refers, value_at};
 ghost use Rattle.space.specs.Pass.{rule_at};
 ghost use Rattle.space.specs.Slots.{values_of, Popped, Reads};
 
 use crate::Space;
 use codec::header::is_record;
-use codec::value::place_of;
+use codec::value::{place_of, refers};
 use memory::Memory;
 use scheme::Scheme;
 
@@ -24,6 +24,23 @@ impl Slots {
     {
         let others = u64::from(scheme.raw_fields(rule)) * 4 + 1;
         Slots { values: !others }
+    }
+
+    // All at once, which is a few instructions: handle by handle it would be hundreds, most of them for handles that are empty.
+    /// The handles that refer to an object, by their number.
+    pub fn of_handles(handles: &[u32; 32]) -> Slots
+        ensures few { (h : ℕ) → h < 32 → values_of result h ≡ refers (slice_index handles.now h) }
+        ensures none { (h : ℕ) → 32 ≤ h → values_of result h ≡ false }
+    {
+        let mut values = 0u32;
+        for h in 0..32u32 {
+            if refers(handles[h as usize]) {
+                values |= 1 << h;
+            }
+        }
+        Slots {
+            values: u64::from(values),
+        }
     }
 
     // By the size modulo 64, so that there is nothing to test.

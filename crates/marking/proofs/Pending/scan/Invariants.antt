@@ -17,7 +17,7 @@ invariant-loop-i g l =
     × Kept ws hs vs l.space.handles
     × ((P : Plan) (limit roots : ℕ) (todo : ℕ → Bool) (turns rounds : ℕ) → Standing (g.S.Scheme.meaning l.scheme) P limit → P.n ≡ length ws → marked P (view ws hs) l.place ≡ true → l.fn.header ≡ view ws hs l.place →
     values_of l.initial.left 0 ≡ false → Going P limit (stage roots (also P l.place todo) turns rounds) (view ws hs) l.initial.self →
-    Sweep l.initial.left l.left l.size (λ i. Going P limit (stage roots (onward P i l.place todo) turns rounds) (view vs l.space.handles) l.self))
+    Sweep l.initial.left l.left 1 l.size (λ i. Going P limit (stage roots (onward P i l.place todo) turns rounds) (view vs l.space.handles) l.self))
 
 abbrev pub decreases-loop-i : goal.decreases-loop-i
 decreases-loop-i g l = l.left.values

@@ -12,7 +12,7 @@ invariant-loop-i g l =
     ((k : ℕ) → k < 64 → values_of l.left k ≡ true → k < l.size)
     × Kept ws l.initial.self.handles vs l.self.handles
     × ((P : Plan) (j : ℕ) → Planned P → P.n ≡ length ws → 1 < l.size → values_of l.initial.left 0 ≡ false → Region P j l.place (values_of l.initial.left) 1 l.size →
-    Forward P j (l.place + 1) j (view ws l.initial.self.handles) → Sweep l.initial.left l.left l.size (λ a. Forward P j (l.place + a) j (view vs l.self.handles)))
+    Forward P j (l.place + 1) j (view ws l.initial.self.handles) → Sweep l.initial.left l.left 1 l.size (λ a. Forward P j (l.place + a) j (view vs l.self.handles)))
 
 abbrev pub decreases-loop-i : goal.decreases-loop-i
 decreases-loop-i g l = l.left.values
