@@ -82,6 +82,28 @@ mod tests {
         }
     }
 
+    // Words that are there, with no room to spare at either end: down and up, apart and over one another, in place, and none.
+    fn moved_within<M: Memory>(rt: &impl Abort, memory: &mut M) {
+        let table = [
+            (3, 0, 2, [4, 5, 3, 4, 5u32]),
+            (2, 0, 2, [3, 4, 3, 4, 5]),
+            (1, 0, 4, [2, 3, 4, 5, 5]),
+            (0, 3, 2, [1, 2, 3, 1, 2]),
+            (1, 3, 2, [1, 2, 3, 2, 3]),
+            (0, 1, 4, [1, 1, 2, 3, 4]),
+            (0, 0, 5, [1, 2, 3, 4, 5]),
+            (5, 0, 0, [1, 2, 3, 4, 5]),
+            (0, 5, 0, [1, 2, 3, 4, 5]),
+        ];
+        for (from, to, size, after) in table {
+            filled(memory);
+            if memory.length() == 5 && from <= 5 && to <= 5 && size <= 5 - from && size <= 5 - to {
+                memory.shift_within(from, to, size);
+            }
+            assert_eq!(rt; held(memory), after);
+        }
+    }
+
     // Five words cleared: within, past the end, and none at all.
     fn cleared<M: Memory>(rt: &impl Abort, memory: &mut M) {
         let table = [
@@ -107,6 +129,7 @@ mod tests {
         let mut words = [9u32; 5];
         let mut memory: &mut [u32] = &mut words;
         moved(&rt, &mut memory);
+        moved_within(&rt, &mut memory);
         cleared(&rt, &mut memory);
         let mut none: &mut [u32] = &mut [];
         none.shift(0, 0, 0);
@@ -121,6 +144,7 @@ mod tests {
         let mut bytes = [9u8; 23];
         let mut memory: &mut [u8] = &mut bytes;
         moved(&rt, &mut memory);
+        moved_within(&rt, &mut memory);
         cleared(&rt, &mut memory);
         let mut few: &mut [u8] = &mut bytes[20..];
         few.shift(0, 0, 1);

@@ -50,6 +50,14 @@ impl Memory for &mut [u8] {
         }
     }
 
+    fn shift_within(&mut self, from: usize, to: usize, size: usize)
+        ensures length { length (words_of self.new.now) ≡ length (words_of self.old.now) }
+        ensures words { (k : ℕ) → slice_index (words_of self.new.now) k ≡ shifted (words_of self.old.now) from to size k }
+        ensures leftover { (k : ℕ) → length self.old.now / 4 * 4 ≤ k → slice_index self.new.now k ≡ slice_index self.old.now k }
+    {
+        self.shift(from, to, size);
+    }
+
     fn clear(&mut self, from: usize, end: usize)
         ensures length { length (words_of self.new.now) ≡ length (words_of self.old.now) }
         ensures words { (k : ℕ) → slice_index (words_of self.new.now) k ≡ cleared (words_of self.old.now) from end k }

@@ -34,16 +34,20 @@ impl Memory for &mut [u32] {
     #[inline(always)]
     fn shift(&mut self, from: usize, to: usize, size: usize) {
         let len = self.len();
-        if size <= len && from <= len - size {
-            if to <= from && size <= from - to {
-                move_down(&mut self[to..from + size], from - to, size);
-            } else if to <= len - size {
-                if from + size <= to {
-                    move_up(&mut self[from..to + size], to - from, size);
-                } else {
-                    move_near(self, from, to, size);
-                }
-            }
+        if size <= len && from <= len - size && to <= len - size {
+            self.shift_within(from, to, size);
+        }
+    }
+
+    // Whoever calls it knows the bounds, so the machine code tests none of them.
+    #[inline(always)]
+    fn shift_within(&mut self, from: usize, to: usize, size: usize) {
+        if to <= from && size <= from - to {
+            move_down(&mut self[to..from + size], from - to, size);
+        } else if from + size <= to {
+            move_up(&mut self[from..to + size], to - from, size);
+        } else {
+            move_near(self, from, to, size);
         }
     }
 

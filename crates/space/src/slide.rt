@@ -18,7 +18,8 @@ impl<M: Memory> Space<M> {
         ensures kept { KeptIn M.Memory.words self.old self.new }
     {
         if from != to && size <= limit - from {
-            self.memory.shift(from as usize, to as usize, size as usize);
+            self.memory
+                .shift_within(from as usize, to as usize, size as usize);
         }
     }
 

@@ -3,7 +3,7 @@ use Rattle.std.proofs.lemmas.List.{places}
 use Rattle.std.proofs.lemmas.Bool.{cases_lt}
 use Rattle.std.proofs.lemmas.Bool.Decides.{nat_tests}
 use Rattle.memory.specs.Ranges.{shifted}
-use Rattle.memory.proofs.words.RefMutSliceU32Memory.shift.Goals as goal
+use Rattle.memory.proofs.words.RefMutSliceU32Memory.shift_within.Goals as goal
 
 -- words are moved within the n from `low` on
 module _ (ws part : List ℕ) (low n f t from to size k : ℕ) where
