@@ -1,5 +1,5 @@
 // The backward update: records, then classes.
-ghost use Rattle.std.specs.Prelude.{◌≡◌, ◌+◌, ◌<◌, ◌≤◌, length, min};
+ghost use Rattle.std.specs.Prelude.{◌≡◌, ◌+◌, ◌<◌, ◌≤◌, false, length, min};
 ghost use Rattle.space.specs.Keeping.{KeptIn};
 ghost use Rattle.space.specs.Pass.{Bounded, Closed, ClosedSide};
 ghost use Rattle.space.specs.Collect.{Closes};
@@ -12,15 +12,16 @@ use memory::Memory;
 impl<M: Memory> Space<M> {
     // A marked object, whose list is taken off: it is moved and unmarked.
     #[inline(always)]
-    fn close_object(&mut self, limit: u32, object: Object, new_place: u32)
+    fn close_object<T: Side>(&mut self, limit: u32, object: Object, new_place: u32)
         requires limit { limit ≡ min (length (M.Memory.words self.old.memory)) 16384 }
         requires place { object.place ≤ limit }
+        requires down { T.Side.upward ≡ false → object.place + object.size ≤ limit }
         requires new { new_place < limit }
         requires slides { object.place + object.size ≤ limit → new_place + object.size ≤ limit }
         ensures closed { Closed (M.Memory.words self.old.memory) self.old.handles object.place new_place object.size object.header (M.Memory.words self.new.memory) self.new.handles }
         ensures kept { KeptIn M.Memory.words self.old self.new }
     {
-        self.slide(limit, object.place, new_place, object.size);
+        self.slide::<T>(limit, object, new_place);
         // Two less: the mark. By `unmarked` it would be tested once more.
         self.fill(Slot::Word(new_place), object.header.saturating_sub(2));
     }
@@ -39,7 +40,7 @@ impl<M: Memory> Space<M> {
                 break;
             };
             if has_mark(object.header) {
-                self.close_object(limit, object, T::place(to, object.size));
+                self.close_object::<T>(limit, object, T::place(to, object.size));
                 to = T::next(to, object.size);
             }
             cursor = T::next(cursor, object.size);

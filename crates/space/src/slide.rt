@@ -1,25 +1,26 @@
 // Sliding: the words of an object go to its new place, and freed words become 0.
-ghost use Rattle.std.specs.Prelude.{◌≡◌, ◌+◌, ◌≤◌, length, min};
+ghost use Rattle.std.specs.Prelude.{◌≡◌, ◌+◌, ◌≤◌, false, length, min};
 ghost use Rattle.space.specs.Keeping.{KeptIn};
 ghost use Rattle.space.specs.Pass.{Moved};
 ghost use Rattle.space.specs.Collect.{Wiped};
 
-use crate::{Space, WORDS};
+use crate::{Object, Side, Space, WORDS};
 use memory::Memory;
 
 impl<M: Memory> Space<M> {
-    // Moves the words of an object, if it is to lie elsewhere. So many words are there to use; in wild words it need not end within them.
+    // Moves the words of an object of a side, if it is to lie elsewhere. In wild words it need not end within those to use.
     #[inline(always)]
-    pub(crate) fn slide(&mut self, limit: u32, from: u32, to: u32, size: u32)
+    pub(crate) fn slide<T: Side>(&mut self, limit: u32, object: Object, to: u32)
         requires limit { limit ≡ min (length (M.Memory.words self.old.memory)) 16384 }
-        requires old { from ≤ limit }
-        requires new { from + size ≤ limit → to + size ≤ limit }
-        ensures moved { Moved (M.Memory.words self.old.memory) self.old.handles from to size (M.Memory.words self.new.memory) self.new.handles }
+        requires old { object.place ≤ limit }
+        requires down { T.Side.upward ≡ false → object.place + object.size ≤ limit }
+        requires new { object.place + object.size ≤ limit → to + object.size ≤ limit }
+        ensures moved { Moved (M.Memory.words self.old.memory) self.old.handles object.place to object.size (M.Memory.words self.new.memory) self.new.handles }
         ensures kept { KeptIn M.Memory.words self.old self.new }
     {
-        if from != to && size <= limit - from {
+        if object.place != to && T::fits(limit, object) {
             self.memory
-                .shift_within(from as usize, to as usize, size as usize);
+                .shift_within(object.place as usize, to as usize, object.size as usize);
         }
     }
 
