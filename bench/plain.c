@@ -18,9 +18,21 @@ uint32_t plain_scans;
 typedef struct {
     uint32_t places[PENDING];
     uint32_t count;
-    bool dropped; /* a marked object found no room, so what it names may be unmarked */
+    /* Marked objects that found no room, so that what they name may be unmarked: the place of the first such record, the end of the first such class. */
+    uint32_t records_from;
+    uint32_t classes_from;
     uint32_t live;
 } pending;
+
+static void note_dropped(pending *todo, uint32_t place, uint32_t header)
+{
+    if (kind_in(header) == RECORD) {
+        if (place < todo->records_from)
+            todo->records_from = place;
+    } else if (place + size_in(header) > todo->classes_from) {
+        todo->classes_from = place + size_in(header);
+    }
+}
 
 static inline void mark(uint32_t *words, pending *todo, uint32_t reference)
 {
@@ -33,7 +45,7 @@ static inline void mark(uint32_t *words, pending *todo, uint32_t reference)
     if (todo->count < PENDING)
         todo->places[todo->count++] = place;
     else
-        todo->dropped = true;
+        note_dropped(todo, place, header);
 }
 
 /* Marks what an object names. */
@@ -64,21 +76,30 @@ static void drain(uint32_t *words, uint32_t scheme, pending *todo)
         scan(words, scheme, todo, todo->places[--todo->count]);
 }
 
-/* Marks what the marked objects of both sides name, for one that was dropped may stand anywhere. */
-static void scan_sides(uint32_t *words, const fusuma_state *state, pending *todo)
+/* Marks what an object names that may have been dropped, and all that this leads to. */
+static void scan_marked(uint32_t *words, uint32_t scheme, pending *todo, uint32_t place)
 {
-    for (uint32_t place = 0; place < state->low; place += size_in(words[place])) {
-        if (is_marked(words[place])) {
-            scan(words, state->scheme, todo, place);
-            drain(words, state->scheme, todo);
-        }
+    if (is_marked(words[place])) {
+        scan(words, scheme, todo, place);
+        drain(words, scheme, todo);
     }
-    for (uint32_t end = state->limit; end > state->high;) {
+}
+
+static void scan_records(uint32_t *words, const fusuma_state *state, pending *todo)
+{
+    uint32_t place = todo->records_from;
+    todo->records_from = WORDS;
+    for (; place < state->low; place += size_in(words[place]))
+        scan_marked(words, state->scheme, todo, place);
+}
+
+static void scan_classes(uint32_t *words, const fusuma_state *state, pending *todo)
+{
+    uint32_t end = todo->classes_from;
+    todo->classes_from = 0;
+    while (end > state->high) {
         end -= words[end - 1];
-        if (is_marked(words[end])) {
-            scan(words, state->scheme, todo, end);
-            drain(words, state->scheme, todo);
-        }
+        scan_marked(words, state->scheme, todo, end);
     }
 }
 
@@ -86,19 +107,22 @@ static uint32_t mark_reachable(uint32_t *words, fusuma_state *state)
 {
     pending todo;
     todo.count = 0;
-    todo.dropped = false;
+    todo.records_from = WORDS;
+    todo.classes_from = 0;
     todo.live = 0;
     for (uint32_t h = 0; h < HANDLES; h++)
         if (refers(state->handles[h]))
             mark(words, &todo, state->handles[h]);
     drain(words, state->scheme, &todo);
-    plain_scans = 0;
-    while (todo.dropped) {
-        todo.dropped = false;
-        scan_sides(words, state, &todo);
-        plain_scans++;
+    /* Each round goes over one side, from its first dropped object; classes first, since they are what records name. */
+    for (plain_scans = 0;; plain_scans++) {
+        if (todo.classes_from > state->high)
+            scan_classes(words, state, &todo);
+        else if (todo.records_from < state->low)
+            scan_records(words, state, &todo);
+        else
+            return todo.live;
     }
-    return todo.live;
 }
 
 static void unmark(uint32_t *words, fusuma_state *state)

@@ -46,9 +46,20 @@ ALWAYS_INLINE uint32_t tested_rule(space s, uint32_t layout)
 typedef struct {
     uint32_t places[PENDING];
     uint32_t count;
-    bool dropped;
+    uint32_t records_from;
+    uint32_t classes_from;
     uint32_t live;
 } pending;
+
+static void note_dropped(pending *todo, uint32_t place, uint32_t header)
+{
+    if (kind_in(header) == RECORD) {
+        if (place < todo->records_from)
+            todo->records_from = place;
+    } else if (place + size_in(header) > todo->classes_from) {
+        todo->classes_from = place + size_in(header);
+    }
+}
 
 ALWAYS_INLINE void mark(space s, pending *todo, uint32_t reference)
 {
@@ -61,7 +72,7 @@ ALWAYS_INLINE void mark(space s, pending *todo, uint32_t reference)
     if (todo->count < PENDING)
         todo->places[todo->count++] = place;
     else
-        todo->dropped = true;
+        note_dropped(todo, place, header);
 }
 
 static void scan(space s, uint32_t scheme, pending *todo, uint32_t place)
@@ -94,36 +105,50 @@ static void drain(space s, uint32_t scheme, pending *todo)
 }
 
 /* Goes over a side, and ends where a size is none. */
-#define FOR_RECORDS(s, end, place, header, HEADER, size)                                                                                              \
-    for (uint32_t place = 0, header, size; place < end && (header = HEADER, size = size_in(header), size - 1 < end - place); place += size)
+#define FOR_RECORDS(s, from, end, place, header, HEADER, size)                                                                                        \
+    for (uint32_t place = from, header, size; place < end && (header = HEADER, size = size_in(header), size - 1 < end - place); place += size)
 
 #define FOR_CLASSES(s, from, end, place, size)                                                                                                        \
     for (uint32_t place = from, size; place > end && (size = word_at(s, place - 1), size - 1 < place - end) && (place -= size, true);)
 
-static void scan_sides(space s, const fusuma_state *state, pending *todo)
+static void scan_marked(space s, uint32_t scheme, pending *todo, uint32_t place, uint32_t header)
 {
-    FOR_RECORDS (s, state->low, place, header, word_at(s, place), size)
-        if (is_marked(header)) {
-            scan(s, state->scheme, todo, place);
-            drain(s, state->scheme, todo);
-        }
-    FOR_CLASSES (s, state->limit, state->high, place, size)
-        if (is_marked(word_at(s, place))) {
-            scan(s, state->scheme, todo, place);
-            drain(s, state->scheme, todo);
-        }
+    if (is_marked(header)) {
+        scan(s, scheme, todo, place);
+        drain(s, scheme, todo);
+    }
+}
+
+static void scan_records(space s, const fusuma_state *state, pending *todo)
+{
+    uint32_t from = todo->records_from;
+    todo->records_from = WORDS;
+    FOR_RECORDS (s, from, state->low, place, header, word_at(s, place), size)
+        scan_marked(s, state->scheme, todo, place, header);
+}
+
+static void scan_classes(space s, const fusuma_state *state, pending *todo)
+{
+    uint32_t from = todo->classes_from;
+    todo->classes_from = 0;
+    FOR_CLASSES (s, from, state->high, place, size)
+        scan_marked(s, state->scheme, todo, place, word_at(s, place));
 }
 
 static uint32_t mark_reachable(space s, fusuma_state *state)
 {
-    pending todo = { .count = 0, .dropped = false, .live = 0 };
+    pending todo = { .count = 0, .records_from = WORDS, .classes_from = 0, .live = 0 };
     for (uint32_t h = 0; h < HANDLES; h++)
         if (refers(state->handles[h]))
             mark(s, &todo, state->handles[h]);
     drain(s, state->scheme, &todo);
-    for (uint32_t round = 0; round < WORDS && todo.dropped; round++) {
-        todo.dropped = false;
-        scan_sides(s, state, &todo);
+    for (uint32_t round = 0; round < WORDS; round++) {
+        if (todo.classes_from > state->high)
+            scan_classes(s, state, &todo);
+        else if (todo.records_from < state->low)
+            scan_records(s, state, &todo);
+        else
+            break;
     }
     return todo.live;
 }
@@ -170,7 +195,7 @@ static void forward(space s, fusuma_state *state)
             thread(s, s.handles + h, WORDS + h);
 
     uint32_t to = 0;
-    FOR_RECORDS (s, state->low, place, header, header_at(s, place), size)
+    FOR_RECORDS (s, 0, state->low, place, header, header_at(s, place), size)
         if (is_marked(header)) {
             unthread(s, place, to_record(to));
             uint32_t values = value_fields(state->scheme, tested_rule(s, word_at(s, place + 1)));
@@ -199,7 +224,7 @@ static void forward(space s, fusuma_state *state)
 static void backward(space s, fusuma_state *state)
 {
     uint32_t low = 0;
-    FOR_RECORDS (s, state->low, place, header, header_at(s, place), size)
+    FOR_RECORDS (s, 0, state->low, place, header, header_at(s, place), size)
         if (is_marked(header)) {
             unthread(s, place, to_record(low));
             s.words[place] = header - MARK;
