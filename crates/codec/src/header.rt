@@ -60,6 +60,13 @@ pub fn is_record(header: u32) -> bool
     header / 4 % 4 == 0
 }
 
+/// Whether the second bit of the object's number is set: it is a map then, or its bits are no kind's.
+pub fn is_map(header: u32) -> bool
+    ensures { result ≡ (header / 4 % 4 / 2 == 1) }
+{
+    header / 8 % 2 == 1
+}
+
 /// Whether the word is the header of a marked object.
 pub fn is_marked(word: u32) -> bool
     ensures { result ≡ (word % 4 == 3) }

@@ -1,13 +1,14 @@
 // The marking of objects, by pending places and, where these run out, by scans of the sides.
-ghost use Rattle.std.specs.Prelude.{◌≡◌, ◌≤◌, length, min};
+ghost use Rattle.std.specs.Prelude.{◌≡◌, ◌/◌, ◌%◌, ◌<◌, ◌≤◌, ◌==◌, false, length, min};
+ghost use Rattle.scheme.specs.Meaning.{Meaning};
 ghost use Rattle.space.specs.Pass.{Bounded};
 ghost use Rattle.space.specs.Keeping.{KeptIn};
 ghost use Rattle.marking.specs.Begins.{Begins};
-ghost use Rattle.marking.specs.Marks.{MarkedAt, Noted, Scanned, Drained, Rescanned, Rooted, Settled};
+ghost use Rattle.marking.specs.Marks.{MarkedAt, NamedAt, Noted, Scanned, Drained, Rescanned, Rooted, Settled};
 
 use crate::Pending;
 use arrayvec::ArrayVec;
-use codec::header::{Shape, has_mark, marked, shape_in, size_in};
+use codec::header::{Shape, has_mark, is_map, is_record, marked, shape_in, size_in};
 use codec::value::{place_of, refers};
 use memory::Memory;
 use scheme::Scheme;
@@ -51,9 +52,47 @@ impl Pending {
         }
     }
 
-    // Marks what the object at a place names, which has that header.
+    // Marks what the word at a place names.
     #[inline(always)]
-    fn scan<M: Memory, S: Scheme>(
+    fn mark_named<M: Memory>(&mut self, space: &mut Space<M>, limit: u32, place: u32)
+        requires limit { limit ≡ min (length (M.Memory.words space.old.memory)) 16384 }
+        ensures named { NamedAt limit (M.Memory.words space.old.memory) space.old.handles self.old place (M.Memory.words space.new.memory) space.new.handles self.new }
+        ensures kept { KeptIn M.Memory.words space.old space.new }
+    {
+        if place >= limit {
+            return;
+        }
+        let word = space.memory.read_within(place as usize);
+        if refers(word) {
+            self.mark_at(space, limit, place_of(word));
+        }
+    }
+
+    // Marks what a class names: a layout its map, a map its name and its parent.
+    #[inline(always)]
+    fn scan_class<M: Memory>(
+        &mut self,
+        space: &mut Space<M>,
+        limit: u32,
+        place: u32,
+        header: u32,
+    )
+        requires limit { limit ≡ min (length (M.Memory.words space.old.memory)) 16384 }
+        requires place { place ≤ limit }
+        requires kind { (header / 4 % 4 == 0) ≡ false }
+        requires some { 3 < header / 16 }
+        ensures scanned { (m : Meaning) → Scanned m (M.Memory.words space.old.memory) space.old.handles self.old place header (M.Memory.words space.new.memory) space.new.handles self.new }
+        ensures kept { KeptIn M.Memory.words space.old space.new }
+    {
+        self.mark_named(space, limit, place + 2);
+        if is_map(header) {
+            self.mark_named(space, limit, place + 3);
+        }
+    }
+
+    // Marks what the object at a place names, by the set of its words that hold values.
+    #[inline(always)]
+    fn scan_slots<M: Memory, S: Scheme>(
         &mut self,
         space: &mut Space<M>,
         scheme: &S,
@@ -78,6 +117,28 @@ impl Pending {
             if refers(word) {
                 self.mark_at(space, limit, place_of(word));
             }
+        }
+    }
+
+    // Marks what the object at a place names, which has that header. Of a class two words are all: to go over a set would take longer.
+    #[inline(always)]
+    fn scan<M: Memory, S: Scheme>(
+        &mut self,
+        space: &mut Space<M>,
+        scheme: &S,
+        limit: u32,
+        place: u32,
+        header: u32,
+    )
+        requires limit { limit ≡ min (length (M.Memory.words space.old.memory)) 16384 }
+        requires place { place ≤ limit }
+        ensures scanned { Scanned (S.Scheme.meaning scheme.now) (M.Memory.words space.old.memory) space.old.handles self.old place header (M.Memory.words space.new.memory) space.new.handles self.new }
+        ensures kept { KeptIn M.Memory.words space.old space.new }
+    {
+        if !is_record(header) && size_in(header) > 3 {
+            self.scan_class(space, limit, place, header);
+        } else {
+            self.scan_slots(space, scheme, limit, place, header);
         }
     }
 

@@ -16,7 +16,7 @@ pub record Sweep (all left : Slots) (start size : ℕ) (S : ℕ → Type 0) : Ty
   pub before : (k : ℕ) → k < at → k < 64 → values_of left k ≡ false
   pub after : (k : ℕ) → at ≤ k → k < 64 → values_of left k ≡ values_of all k
 
-steps : (S : ℕ → Type 0) (n a : ℕ) → ((k : ℕ) → a ≤ k → k < a + n → S k → S (k + 1)) → S a → S (a + n)
+pub steps : (S : ℕ → Type 0) (n a : ℕ) → ((k : ℕ) → a ≤ k → k < a + n → S k → S (k + 1)) → S a → S (a + n)
 steps S zero a f s = subst S (sym (add-zero a)) s
 steps S (suc n) a f s =
     let e : a + n + 1 ≡ a + suc n = omega arith in

@@ -6,7 +6,7 @@ use Rattle.space.specs.Standing.{Standing}
 use Rattle.space.proofs.Sweeps.{Sweep}
 use Rattle.marking.specs.Marks.{Going, stage, also, marked}
 use Rattle.marking.proofs.Steps.{onward}
-use Rattle.marking.proofs.Pending.scan.Given as goal
+use Rattle.marking.proofs.Pending.scan_slots.Given as goal
 
 abbrev pub invariant-loop-i : goal.invariant-loop-i
 invariant-loop-i g l =
