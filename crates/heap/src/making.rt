@@ -121,15 +121,13 @@ impl<M: Memory, S: Scheme> Heap<M, S> {
         let size = self.record_size(self.space.handles[layout as usize], 2)?;
         self.make_room(size)?;
         let place = Records::take(&mut self.bounds, size);
-        let words = [
+        // Free words are 0 at rest; but a heap may be taken up over any words, and a new record's fields are 0 there too.
+        self.space.memory.write_fresh(
+            place as usize,
             header_of(Shape::Record, size),
             self.space.handles[layout as usize],
-        ];
-        self.put(place, &words);
-        // Free words are 0 at rest; but a heap may be taken up over any words, and a new record's fields are 0 there too.
-        self.space
-            .memory
-            .clear(place as usize + 2, place as usize + size as usize);
+            place as usize + size as usize,
+        );
         self.space.handles[target as usize] = Records::reference(place);
         Ok(())
     }
