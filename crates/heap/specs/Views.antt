@@ -85,4 +85,4 @@ pub record Rooms (m : Meaning) (need : ℕ) (before after : View) (r : Result (U
   pub limit : after.limit ≡ before.limit
   pub refusal : IfErr r (λ e. e ≡ Full)
   -- where there was room, nothing is done
-  pub roomy : need ≤ before.high - before.low → after ≡ before
+  pub roomy : before.low + need ≤ before.high → after ≡ before

@@ -32,7 +32,7 @@ impl<M: Memory, S: Scheme> Heap<M, S> {
         ensures rooms { Rooms (S.Scheme.meaning self.old.scheme) need (view M.Memory.words self.old) (view M.Memory.words self.new) result }
         ensures scheme { self.new.scheme ≡ self.old.scheme }
     {
-        if self.bounds.high.saturating_sub(self.bounds.low) >= need {
+        if self.bounds.low as usize + need as usize <= self.bounds.high as usize {
             return Ok(());
         }
         let live = self.reclaim();
