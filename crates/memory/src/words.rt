@@ -125,16 +125,29 @@ fn write_all(words: &mut [u32], first: u32, second: u32)
     zero(&mut words[2..]);
 }
 
-// 0 in each of the words. Four to eight are set by the first four and the last four, which is sooner done than a call of `memset`.
+// 0 in each of the words. A few are set by their ends, which is sooner done than a call of `memset`.
 #[inline(always)]
 fn zero(words: &mut [u32])
     ensures { words.new ≡ replicate (length words.old) 0 }
 {
     let len = words.len();
     if 4 <= len && len <= 8 {
-        words[..4].fill(0);
-        words[len - 4..].fill(0);
+        zero_ends(words, 4);
+    } else if 2 <= len && len <= 4 {
+        zero_ends(words, 2);
     } else {
         words.fill(0);
     }
+}
+
+// The first so many words and the last so many, which are all of them: they may overlap.
+#[inline(always)]
+fn zero_ends(words: &mut [u32], many: usize)
+    requires within { many ≤ length words.old }
+    requires all { length words.old ≤ many + many }
+    ensures { words.new ≡ replicate (length words.old) 0 }
+{
+    let len = words.len();
+    words[..many].fill(0);
+    words[len - many..].fill(0);
 }

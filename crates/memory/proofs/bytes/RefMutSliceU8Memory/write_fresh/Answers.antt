@@ -1,5 +1,4 @@
-use Rattle.std.proofs.Common.{◌≡◌, ◌*◌, ◌/◌, length, sym, ap, ◌∙◌, subst, arith, length-set}
-use Rattle.memory.specs.Bytes.{words_of}
+use Rattle.std.proofs.Common.{◌≡◌, ◌/◌, length, sym, ap, ◌∙◌, arith, length-set}
 use Rattle.memory.proofs.Wordwise.{length-words}
 use Rattle.memory.proofs.bytes.RefMutSliceU8Memory.write_fresh.Goals as goal
 
