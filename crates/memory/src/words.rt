@@ -34,7 +34,7 @@ impl Memory for &mut [u32] {
     #[inline(always)]
     fn write_fresh(&mut self, place: usize, first: u32, second: u32, end: usize) {
         if end <= self.len() {
-            write_all(&mut self[place..end], first, second);
+            make_fresh(&mut self[place..end], first, second);
         } else {
             self.write(place, first);
             self.write(place + 1, second);
@@ -111,9 +111,9 @@ fn move_near(words: &mut [u32], from: usize, to: usize, size: usize)
     words.copy_within(from..from + size, to);
 }
 
-// Two words, and 0 behind them.
+// The whole slice: two words, and 0 behind them.
 #[inline(always)]
-fn write_all(words: &mut [u32], first: u32, second: u32)
+fn make_fresh(words: &mut [u32], first: u32, second: u32)
     requires { 2 ≤ length words.old }
     ensures length { length words.new ≡ length words.old }
     ensures first { slice_index words.new 0 ≡ first }

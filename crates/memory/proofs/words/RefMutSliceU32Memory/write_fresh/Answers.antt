@@ -46,12 +46,12 @@ module _ (ws : List ℕ) (p end f s : ℕ) (long : p + 2 ≤ end) (lies : end �
 pub returns-then-end-self-clause-words : goal.returns-then-end-self-clause-words
 returns-then-end-self-clause-words c = λ k.
     let ws = c.args.self.now.now in
-    let part = c.write_all.new.words in
+    let part = c.make_fresh.new.words in
     let p = c.args.place in
     let end = c.args.end in
     let f = c.args.first in
     let s = c.args.second in
-    let all = c.write_all.ensures in
+    let all = c.make_fresh.ensures in
     elim (cases_lt k p) [
       | inl i ↦ without ws part p end f s k (omega arith) (omega arith) (omega arith) (inl i)
       | inr o ↦ elim (cases_lt k end) [

@@ -1,6 +1,6 @@
 use Rattle.std.proofs.Common.{◌≡◌, ℕ, ◌-◌, ◌<◌, ◌≤◌, List, ◌++◌, length, get_or, set, take, drop, ◌∙◌, arith, length-set, length-take-le}
 use Rattle.std.proofs.lemmas.List.{get_or-take, get_or_append_left, get_or-set_same, get_or-set_other}
-use Rattle.memory.proofs.words.write_all.Goals as goal
+use Rattle.memory.proofs.words.make_fresh.Goals as goal
 
 -- the first two words stay, whatever is behind them
 front : (xs ys : List ℕ) (k : ℕ) → 2 ≤ length xs → k < 2 → get_or (take 2 xs ++ ys) k 0 ≡ get_or xs k 0
