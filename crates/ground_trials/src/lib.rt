@@ -124,6 +124,23 @@ mod tests {
         }
     }
 
+    // Two words and zeros behind them in five words: within, past the end, and beyond it.
+    fn fresh<M: Memory>(rt: &impl Abort, memory: &mut M) {
+        let table = [
+            (0, 5, [7, 8, 0, 0, 0u32]),
+            (1, 4, [1, 7, 8, 0, 5]),
+            (2, 4, [1, 2, 7, 8, 5]),
+            (2, 6, [1, 2, 7, 8, 0]),
+            (4, 6, [1, 2, 3, 4, 7]),
+            (5, 8, [1, 2, 3, 4, 5]),
+        ];
+        for (place, end, after) in table {
+            filled(memory);
+            memory.write_fresh(place, 7, 8, end);
+            assert_eq!(rt; held(memory), after);
+        }
+    }
+
     #[test]
     fn ranges_of_words(rt: HostRuntime) {
         let mut words = [9u32; 5];
@@ -131,11 +148,22 @@ mod tests {
         moved(&rt, &mut memory);
         moved_within(&rt, &mut memory);
         cleared(&rt, &mut memory);
+        fresh(&rt, &mut memory);
         let mut none: &mut [u32] = &mut [];
         none.shift(0, 0, 0);
         none.shift(0, 1, 1);
         none.clear(0, 1);
         assert_eq!(rt; none.read(0), 0);
+    }
+
+    // As many zeros as are set four at a time, and more than those.
+    #[test]
+    fn fresh_words(rt: HostRuntime) {
+        let mut words = [9u32; 13];
+        let mut memory: &mut [u32] = &mut words;
+        memory.write_fresh(1, 7, 8, 12);
+        memory.write_fresh(0, 1, 2, 8);
+        assert_eq!(rt; words, [1, 2, 0, 0, 0, 0, 0, 0, 0, 0, 0, 0, 9]);
     }
 
     // The three bytes behind the fifth word stay.
@@ -146,6 +174,7 @@ mod tests {
         moved(&rt, &mut memory);
         moved_within(&rt, &mut memory);
         cleared(&rt, &mut memory);
+        fresh(&rt, &mut memory);
         let mut few: &mut [u8] = &mut bytes[20..];
         few.shift(0, 0, 1);
         few.clear(0, 1);

@@ -116,7 +116,7 @@ module _ (m : Meaning) (v : View) (g : Graph) (s : List Bool) (st : Stands m v g
   gap = ap₂ (λ (a b : ℕ). a - b) st.high_is st.low_is ∙ sym (between_ends v.limit g s st.rests.sound.fits).1
 
   -- there is room at once
-  pub room-there : need ≤ v.high - v.low → Room m need v g s v (Ok tt)
+  pub room-there : v.low + need ≤ v.high → Room m need v g s v (Ok tt)
   room-there l =
       let enough : need ≤ between v.limit g s = omega (arith, gap) in
       let c : cleared v.limit g s need ≡ s = cond-false _ _ _ (le-ltb (between v.limit g s) need enough) in
@@ -124,9 +124,10 @@ module _ (m : Meaning) (v : View) (g : Graph) (s : List Bool) (st : Stands m v g
       (subst (λ (t : List Bool). Stands m v g t) (sym c) st, fits)
 
   -- it has been made by a collection, or there is none
-  pub room-packed : (v' : View) → v.high - v.low < need → Stands m v' g (reachable g) → live_words g + need ≤ v.limit → Room m need v g s v' (Ok tt)
+  pub room-packed : (v' : View) → v.high < v.low + need → Stands m v' g (reachable g) → live_words g + need ≤ v.limit → Room m need v g s v' (Ok tt)
   room-packed v' l st' fits =
-      let c : cleared v.limit g s need ≡ reachable g = cond-true _ _ _ (lt-ltb (between v.limit g s) need (omega (arith, gap))) in
+      let apart : v.low ≤ v.high = omega (arith, st.low_is, st.high_is, (between_ends v.limit g s st.rests.sound.fits).0) in
+      let c : cleared v.limit g s need ≡ reachable g = cond-true _ _ _ (lt-ltb (between v.limit g s) need (omega (arith, gap, apart))) in
       (subst (λ (t : List Bool). Stands m v' g t) (sym c) st', le-ltb v.limit (live_words g + need) fits)
 
 -- The heap with the new object.
@@ -429,9 +430,9 @@ record-alters v v₁ v₂ d n ws put same some room small =
     parts_same put.memory (put.handles (omega (arith, low))) (put.low (omega (arith, low))) put.high put.limit ∙ ap (λ (u : View). with_record u d n (ws u)) same
 
 -- and of a record, by the words of before
-pub fresh-alters : (v v₁ v₂ : View) (d l n : ℕ) → n ≡ record_words v l → RecordPut v₁ v₂ d n ((1 + 16 * n) ∷ get_or v₁.handles l 0 ∷ replicate (n - 2) 0) → (n ≤ v.high - v.low → v₁ ≡ v)
+pub fresh-alters : (v v₁ v₂ : View) (d l n : ℕ) → n ≡ record_words v l → RecordPut v₁ v₂ d n ((1 + 16 * n) ∷ get_or v₁.handles l 0 ∷ replicate (n - 2) 0) → (v.low + n ≤ v.high → v₁ ≡ v)
     → record_words v l ≤ v.high - v.low → v.high ≤ 16384 → v₂ ≡ with_record v d (record_words v l) (header false 0 (record_words v l) ∷ handle_word v l ∷ replicate (record_words v l - 2) 0)
 fresh-alters v v₁ v₂ d l n e put same room small =
     let left : n ≤ v.high - v.low = omega (arith, e, room) in
-    record-alters v v₁ v₂ d n (λ u. (1 + 16 * n) ∷ get_or u.handles l 0 ∷ replicate (n - 2) 0) put (same left) (omega (arith, e)) left small
+    record-alters v v₁ v₂ d n (λ u. (1 + 16 * n) ∷ get_or u.handles l 0 ∷ replicate (n - 2) 0) put (same (omega (arith, e, left))) (omega (arith, e)) left small
     ∙ ap (λ (k : ℕ). with_record v d k ((1 + 16 * k) ∷ handle_word v l ∷ replicate (k - 2) 0)) e

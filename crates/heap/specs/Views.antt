@@ -1,5 +1,5 @@
 -- What a heap's words, handles and ends say of the graph, and what a call promises.
-use Rattle.std.specs.Prelude.{◌≡◌, ℕ, ◌+◌, ◌-◌, ◌≤◌, min, Bool, true, false, cond, List, length, drop, ℤ, pos, IfErr, Ok, Err, Result, nat_lt}
+use Rattle.std.specs.Prelude.{◌≡◌, ℕ, ◌+◌, ◌≤◌, min, Bool, true, false, cond, List, length, drop, ℤ, pos, IfErr, Ok, Err, Result, nat_lt}
 use Rattle.scheme.specs.Meaning.{Meaning}
 use Rattle.graph.specs.declared.Call.{Call}
 use Rattle.graph.specs.declared.Refusal.{Refusal}
@@ -85,4 +85,4 @@ pub record Rooms (m : Meaning) (need : ℕ) (before after : View) (r : Result (U
   pub limit : after.limit ≡ before.limit
   pub refusal : IfErr r (λ e. e ≡ Full)
   -- where there was room, nothing is done
-  pub roomy : need ≤ before.high - before.low → after ≡ before
+  pub roomy : before.low + need ≤ before.high → after ≡ before

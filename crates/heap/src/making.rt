@@ -32,7 +32,7 @@ impl<M: Memory, S: Scheme> Heap<M, S> {
         ensures rooms { Rooms (S.Scheme.meaning self.old.scheme) need (view M.Memory.words self.old) (view M.Memory.words self.new) result }
         ensures scheme { self.new.scheme ≡ self.old.scheme }
     {
-        if self.bounds.high.saturating_sub(self.bounds.low) >= need {
+        if self.bounds.low as usize + need as usize <= self.bounds.high as usize {
             return Ok(());
         }
         let live = self.reclaim();
@@ -121,15 +121,13 @@ impl<M: Memory, S: Scheme> Heap<M, S> {
         let size = self.record_size(self.space.handles[layout as usize], 2)?;
         self.make_room(size)?;
         let place = Records::take(&mut self.bounds, size);
-        let words = [
+        // Free words are 0 at rest; but a heap may be taken up over any words, and a new record's fields are 0 there too.
+        self.space.memory.write_fresh(
+            place as usize,
             header_of(Shape::Record, size),
             self.space.handles[layout as usize],
-        ];
-        self.put(place, &words);
-        // Free words are 0 at rest; but a heap may be taken up over any words, and a new record's fields are 0 there too.
-        self.space
-            .memory
-            .clear(place as usize + 2, place as usize + size as usize);
+            place as usize + size as usize,
+        );
         self.space.handles[target as usize] = Records::reference(place);
         Ok(())
     }

@@ -1,5 +1,5 @@
 // A memory over a slice of bytes.
-ghost use Rattle.std.specs.Prelude.{◌≡◌, ℕ, ◌*◌, ◌/◌, ◌≤◌, length, slice_index, slice_set};
+ghost use Rattle.std.specs.Prelude.{◌≡◌, ℕ, ◌+◌, ◌*◌, ◌/◌, ◌≤◌, length, slice_index, slice_set};
 ghost use Rattle.memory.specs.Bytes.{words_of};
 ghost use Rattle.memory.specs.Ranges.{shifted, cleared};
 
@@ -36,6 +36,17 @@ impl Memory for &mut [u8] {
         ensures leftover { (k : ℕ) → length self.old.now / 4 * 4 ≤ k → slice_index self.new.now k ≡ slice_index self.old.now k }
     {
         self.write(place, word);
+    }
+
+    fn write_fresh(&mut self, place: usize, first: u32, second: u32, end: usize)
+        requires { place + 2 ≤ end }
+        ensures length { length (words_of self.new.now) ≡ length (words_of self.old.now) }
+        ensures words { (k : ℕ) → slice_index (words_of self.new.now) k ≡ cleared (slice_set (slice_set (words_of self.old.now) place first) (place + 1) second) (place + 2) end k }
+        ensures leftover { (k : ℕ) → length self.old.now / 4 * 4 ≤ k → slice_index self.new.now k ≡ slice_index self.old.now k }
+    {
+        self.write(place, first);
+        self.write(place + 1, second);
+        self.clear(place + 2, end);
     }
 
     // This and `clear` at once, as over a slice of words.

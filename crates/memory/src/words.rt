@@ -1,5 +1,5 @@
 // A memory over a slice of words.
-ghost use Rattle.std.specs.Prelude.{◌≡◌, ℕ, ◌+◌, ◌≤◌, length, slice_index};
+ghost use Rattle.std.specs.Prelude.{◌≡◌, ℕ, ◌+◌, ◌≤◌, length, replicate, slice_index};
 ghost use Rattle.memory.specs.Ranges.{shifted};
 
 use crate::Memory;
@@ -28,6 +28,18 @@ impl Memory for &mut [u32] {
 
     fn write_within(&mut self, place: usize, word: u32) {
         self[place] = word;
+    }
+
+    // By one test, and the words at once.
+    #[inline(always)]
+    fn write_fresh(&mut self, place: usize, first: u32, second: u32, end: usize) {
+        if end <= self.len() {
+            make_fresh(&mut self[place..end], first, second);
+        } else {
+            self.write(place, first);
+            self.write(place + 1, second);
+            self.clear(place + 2, end);
+        }
     }
 
     // This and `clear` at once: the trait's own bodies go word by word.
@@ -101,4 +113,45 @@ fn move_near(words: &mut [u32], from: usize, to: usize, size: usize)
     ensures words { (k : ℕ) → slice_index words.new k ≡ shifted words.old from to size k }
 {
     words.copy_within(from..from + size, to);
+}
+
+// The whole slice: two words, and 0 behind them.
+#[inline(always)]
+fn make_fresh(words: &mut [u32], first: u32, second: u32)
+    requires { 2 ≤ length words.old }
+    ensures length { length words.new ≡ length words.old }
+    ensures first { slice_index words.new 0 ≡ first }
+    ensures second { slice_index words.new 1 ≡ second }
+    ensures rest { (k : ℕ) → 2 ≤ k → slice_index words.new k ≡ 0 }
+{
+    words[0] = first;
+    words[1] = second;
+    zero(&mut words[2..]);
+}
+
+// 0 in each of the words. A few are set by their ends, which is sooner done than a call of `memset`.
+#[inline(always)]
+fn zero(words: &mut [u32])
+    ensures { words.new ≡ replicate (length words.old) 0 }
+{
+    let len = words.len();
+    if 4 <= len && len <= 8 {
+        zero_ends(words, 4);
+    } else if 2 <= len && len <= 4 {
+        zero_ends(words, 2);
+    } else {
+        words.fill(0);
+    }
+}
+
+// The first so many words and the last so many, which are all of them: they may overlap.
+#[inline(always)]
+fn zero_ends(words: &mut [u32], many: usize)
+    requires within { many ≤ length words.old }
+    requires all { length words.old ≤ many + many }
+    ensures { words.new ≡ replicate (length words.old) 0 }
+{
+    let len = words.len();
+    words[..many].fill(0);
+    words[len - many..].fill(0);
 }

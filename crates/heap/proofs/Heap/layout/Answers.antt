@@ -53,7 +53,7 @@ returns g c =
       limit = ap (λ (b : Bounds). b.limit) put.bounds;
     } in
     ends _ _ (Layout c.args.target c.args.fields c.args.map) _ _ _ (placed.limit ∙ room.limit) (put.scheme ∙ c.in_ok-make_room.ensures.scheme)
-    (λ l small. class-alters _ v₁ _ c.args.target 4 (λ u. 69 ∷ c.args.fields ∷ get_or u.handles c.args.map 0 ∷ 4 ∷ []) placed (room.roomy l) (omega arith) l small) λ gr s st.
+    (λ l small. class-alters _ v₁ _ c.args.target 4 (λ u. 69 ∷ c.args.fields ∷ get_or u.handles c.args.map 0 ∷ 4 ∷ []) placed (room.roomy (omega arith)) (omega arith) l small) λ gr s st.
     layout-done _ _ gr s st _ _ room.limit (room.later gr s st) c.args.target c.args.fields c.args.map c.in_ok-check_handle-2.ensures.gives
     (eqb-true (kind_of gr (held gr c.args.map)) 4 (not-false _ (pass-first (all_pass (c.in_ok-check_kind.ensures gr s (held gr c.args.map) st (held-means _ _ gr s st c.args.map c.in_ok-check_handle-2.ensures.gives))))))
     (passed c.in_ok-check_handle.ensures (passed c.in_ok-check_fields.ensures (passed c.in_ok-check_handle-2.ensures (all_pass (c.in_ok-check_kind.ensures gr s (held gr c.args.map) st (held-means _ _ gr s st c.args.map c.in_ok-check_handle-2.ensures.gives))))))

@@ -4,8 +4,8 @@ use Rattle.heap.specs.Views.{view}
 use Rattle.heap.proofs.Objects.{room-there, room-packed}
 use Rattle.heap.proofs.Heap.make_room.Goals as goal
 
-pub returns-then-saturating_sub-need : goal.returns-then-saturating_sub-need
-returns-then-saturating_sub-need g c =
+pub returns-then-self-need : goal.returns-then-self-need
+returns-then-self-need g c =
     record {
       rooms = record { room = λ gr s st. room-there _ _ gr s st c.args.need (omega arith); later = λ gr s st. refl; limit = refl; refusal = tt; roomy = λ l. refl };
       scheme = refl;

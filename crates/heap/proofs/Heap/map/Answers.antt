@@ -56,7 +56,7 @@ returns g c =
       limit = ap (λ (b : Bounds). b.limit) put.bounds;
     } in
     ends _ _ (Map c.args.target c.args.rule c.args.name c.args.parent) _ _ _ (placed.limit ∙ room.limit) (put.scheme ∙ c.in_ok-make_room.ensures.scheme)
-    (λ l small. class-alters _ v₁ _ c.args.target 5 (λ u. 89 ∷ c.args.rule ∷ get_or u.handles c.args.name 0 ∷ get_or u.handles c.args.parent 0 ∷ 5 ∷ []) placed (room.roomy l) (omega arith) l small) λ gr s st.
+    (λ l small. class-alters _ v₁ _ c.args.target 5 (λ u. 89 ∷ c.args.rule ∷ get_or u.handles c.args.name 0 ∷ get_or u.handles c.args.parent 0 ∷ 5 ∷ []) placed (room.roomy (omega arith)) (omega arith) l small) λ gr s st.
     map-done _ _ gr s st _ _ room.limit (room.later gr s st) c.args.target c.args.rule c.args.name c.args.parent c.in_ok-check_handle-2.ensures.gives c.in_ok-check_handle-3.ensures.gives
     (passed c.in_ok-check_handle.ensures (passed c.in_ok-check_rule.ensures (passed c.in_ok-check_handle-2.ensures (passed c.in_ok-check_handle-3.ensures (all_pass (c.in_ok-check_parent.ensures gr s (held gr c.args.parent) st (held-means _ _ gr s st c.args.parent c.in_ok-check_handle-3.ensures.gives)))))))
     (room.room gr s st)

@@ -1,4 +1,4 @@
-use Rattle.std.proofs.Common.{◌≡◌, ℕ, suc, ◌+◌, ◌-◌, ◌*◌, List, [], ◌∷◌, get_or, set, replicate, sym, refl, ap, ◌∙◌, ap₂, arith}
+use Rattle.std.proofs.Common.{◌≡◌, ℕ, suc, ◌+◌, ◌-◌, ◌*◌, List, ◌∷◌, length, get_or, set, replicate, sym, refl, ap, ◌∙◌, ap₂, arith, length-set}
 use Rattle.std.proofs.lemmas.Bool.{eqb-true, not-false}
 use Rattle.memory.specs.Ranges.{cleared}
 use Rattle.graph.specs.declared.Call.TheVariants.{Record}
@@ -45,23 +45,26 @@ returns g c =
     let place : c.take-place.result ≡ v₁.low = c.take-place.ensures.place in
     let fields : c.take-place.result + 2 ≡ suc (suc v₁.low) = omega (arith, place) in
     let end : c.take-place.result + n ≡ c.take-place.result + 2 + (n - 2) = omega (arith, counted) in
-    let bounds = c.put.ensures.bounds ∙ c.take-place.ensures.bounds in
+    let one : c.take-place.result + 1 ≡ suc v₁.low = omega (arith, place) in
+    let head = c.header_of.ensures (omega (arith, counted)) in
+    let made = set (set v₁.words c.take-place.result c.header_of.result) (c.take-place.result + 1) (get_or v₁.handles l 0) in
+    let long : length made ≡ length v₁.words = length-set _ _ _ ∙ length-set _ _ _ in
+    let bounds = c.take-place.ensures.bounds in
     let placed : RecordPut v₁ _ c.args.target n ((1 + 16 * n) ∷ get_or v₁.handles l 0 ∷ replicate (n - 2) 0) =
     record {
       memory =
-          put-zeros (g.M.Memory.words c.put.new.self.space.memory) _ (c.take-place.result + 2) (n - 2) c.clear.ensures.length
-          (λ k. c.clear.ensures.words k ∙ ap (λ (e : ℕ). cleared (g.M.Memory.words c.put.new.self.space.memory) (c.take-place.result + 2) e k) end)
+          put-zeros made _ (c.take-place.result + 2) (n - 2) (c.write_fresh.ensures.length ∙ sym long)
+          (λ k. c.write_fresh.ensures.words k ∙ ap (λ (e : ℕ). cleared made (c.take-place.result + 2) e k) end)
           ∙ ap₂ (λ (ws : List ℕ) (p : ℕ). putWords ws p (replicate (n - 2) 0))
-          (c.put.ensures.memory ∙ ap₂ (λ (p h : ℕ). putWords v₁.words p (h ∷ get_or v₁.handles l 0 ∷ [])) place (c.header_of.ensures (omega (arith, counted))))
+          (ap₂ (λ (ws : List ℕ) (p : ℕ). set ws p (get_or v₁.handles l 0)) (ap₂ (λ (p h : ℕ). set v₁.words p h) place head) one)
           fields;
       handles = λ k.
-          ap₂ (λ (hs : List ℕ) (w : ℕ). set hs c.args.target w) c.put.ensures.handles
-          (c.reference.ensures (omega (arith, place, k)) ∙ ap (λ (p : ℕ). p * 4 + 2) place);
+          ap (λ (w : ℕ). set v₁.handles c.args.target w) (c.reference.ensures (omega (arith, place, k)) ∙ ap (λ (p : ℕ). p * 4 + 2) place);
       low = λ k. let low = ap (λ (b : Bounds). b.low) bounds in omega (arith, low, counted);
       high = ap (λ (b : Bounds). b.high) bounds;
       limit = ap (λ (b : Bounds). b.limit) bounds;
     } in
-    ends _ _ (Record c.args.target l) _ _ _ (placed.limit ∙ room.limit) (c.put.ensures.scheme ∙ c.in_ok-make_room.ensures.scheme)
+    ends _ _ (Record c.args.target l) _ _ _ (placed.limit ∙ room.limit) c.in_ok-make_room.ensures.scheme
     (λ k high. fresh-alters _ v₁ _ c.args.target l n counted placed room.roomy k high) λ gr s st.
     let sifted = c.in_ok-size.ensures.size gr s (held gr l) st (held-means _ _ gr s st l c.in_ok-check_handle-2.ensures.gives) in
     record-done _ _ gr s st _ _ room.limit (room.later gr s st) c.args.target l n c.in_ok-check_handle-2.ensures.gives
