@@ -1,10 +1,4 @@
-use Rattle.std.proofs.Common.{◌≡◌, ℕ, ◌/◌, ◌%◌, Bool, true, false, Option, Some, None, MatchOption, get_or, sym, ap, ◌∙◌, arith}
-use Rattle.std.specs.Option.{option_eq}
-use Rattle.std.proofs.lemmas.Bool.{true≢false, false≢true}
-use Rattle.codec.specs.Kinds.{shape_number}
-use Rattle.codec.specs.declared.header.Shape.{Shape}
-use Rattle.codec.specs.declared.header.Shape.TheVariants.{Record, Layout, Map}
-use Rattle.codec.specs.contracts.header.ShapePartialEq.TheImpl.{eq-value}
+use Rattle.std.proofs.Common.{◌≡◌, ◌/◌, ◌%◌, get_or, ap, ◌∙◌, arith}
 use Rattle.space.proofs.KindBits.{bits-layout, bits-other}
 use Rattle.heap.proofs.Readings.{layout_word, map_word}
 use Rattle.heap.proofs.Heap.kind_of.Goals as goal
