@@ -22,6 +22,38 @@ mod tests {
         assert_eq!(rt; memory.read(1), 0xfffe_fdfc);
         assert_eq!(rt; memory.read(2), 0);
         assert_eq!(rt; memory.read(usize::MAX), 0);
+        assert_eq!(rt;
+            within(memory, 1, 0x8000_0001),
+            Some((0xfffe_fdfc, 0x8000_0001))
+        );
+        assert_eq!(rt; memory.read(0), 0x0102_0304);
+        assert_eq!(rt;
+            within(memory, 0, 0x7654_3210),
+            Some((0x0102_0304, 0x7654_3210))
+        );
+        assert_eq!(rt; memory.read(1), 0x8000_0001);
+        assert_eq!(rt;
+            within(memory, 0, 0x0102_0304),
+            Some((0x7654_3210, 0x0102_0304))
+        );
+        assert_eq!(rt;
+            within(memory, 1, 0xfffe_fdfc),
+            Some((0x8000_0001, 0xfffe_fdfc))
+        );
+        assert_eq!(rt; within(memory, 2, 7), None);
+    }
+
+    // What the calls for a place within read there, before and after one of them writes the word.
+    fn within<M: Memory>(memory: &mut M, place: usize, word: u32) -> Option<(u32, u32)> {
+        if place >= memory.length() {
+            return None;
+        }
+        let before = memory.read_within(place);
+        memory.write_within(place, word);
+        if place >= memory.length() {
+            return None;
+        }
+        Some((before, memory.read_within(place)))
     }
 
     #[test]
@@ -296,7 +328,11 @@ mod tests {
         assert_eq!(rt; header::unmarked(83), 81);
         assert_eq!(rt; header::size_in(83), 5);
         assert_eq!(rt; header::shape_in(89).map(Shape::number), Some(2));
-        assert!(rt; header::is_marked(83) && header::is_unmarked(81));
+        assert!(rt; header::is_marked(83) && !header::is_marked(81));
+        assert_eq!(rt;
+            [80, 81, 82, 83, 85, 94, u32::MAX].map(header::has_mark),
+            [false, false, true, true, false, true, true]
+        );
         assert_eq!(rt; value::to_record(5), 22);
         assert_eq!(rt; value::to_class(55), 223);
         assert!(rt; value::refers(22) && value::place_of(223) == 55);

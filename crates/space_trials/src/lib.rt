@@ -6,7 +6,7 @@ mod tests {
     use marking::{begin, give_up};
     use memory::Memory;
     use scheme::Prefix;
-    use space::{ADDRESSES, Bounds, Space, WORDS};
+    use space::{ADDRESSES, Bounds, Slots, Space, WORDS};
 
     // Writes the words from the place on.
     fn write<M: Memory>(space: &mut Space<M>, from: u32, words: &[u32]) {
@@ -193,6 +193,146 @@ mod tests {
         (0..limit)
             .chain(WORDS..ADDRESSES)
             .all(|place| first.look(place) == second.look(place))
+    }
+
+    // So many nodes, each a record of 32 fields, which name in turn a record and a class, 31 in all, and then the next node: the pending places run out at the
+    // third node already, and then again and again. Each of the 31 names an object of the other side, to which nothing else leads. A later node lies before the
+    // others, where a round over the records has passed by the time that it is dropped. Each node has a record and a map behind it that nothing names. The headers
+    // of all else have this mark.
+    fn tower<M: Memory>(space: &mut Space<M>, nodes: u32, limit: u32, mark: u32) {
+        clear(space, limit);
+        let map = limit.wrapping_sub(5);
+        let none = limit.wrapping_sub(9);
+        let one = limit.wrapping_sub(13);
+        let many = limit.wrapping_sub(17);
+        write(space, map, &[89, 0, 0, 0, 5]);
+        write_layout(space, none, 0, map);
+        write_layout(space, one, 1, map);
+        write_layout(space, many, 32, map);
+        for place in [map, none, one, many] {
+            add(space, place, mark);
+        }
+        for node in 0..nodes {
+            let base = nodes.wrapping_sub(node).wrapping_sub(1).wrapping_mul(114);
+            let classes = many.wrapping_sub(node.wrapping_add(1).wrapping_mul(160));
+            head(space, base, 32, many);
+            add(space, base, mark);
+            for i in 0..16u32 {
+                let stem = base.wrapping_add(34 + i * 3);
+                let held = classes.wrapping_add(i * 5);
+                head(space, stem, 1, one);
+                space.store(stem.wrapping_add(2), reference(held, 3));
+                write(space, held, &[89, 0, 0, 0, 5]);
+                add(space, stem, mark);
+                add(space, held, mark);
+                space.store(base.wrapping_add(2 + i * 2), reference(stem, 2));
+            }
+            for i in 0..15u32 {
+                let named = classes.wrapping_add(80 + i * 5);
+                let leaf = base.wrapping_add(82 + i * 2);
+                write(space, named, &[89, 0, reference(leaf, 2), 0, 5]);
+                head(space, leaf, 0, none);
+                add(space, named, mark);
+                add(space, leaf, mark);
+                space.store(base.wrapping_add(3 + i * 2), reference(named, 3));
+            }
+            if node.wrapping_add(1) < nodes {
+                space.store(base.wrapping_add(33), reference(base.wrapping_sub(114), 2));
+            }
+            head(space, base.wrapping_add(112), 0, none);
+            write(
+                space,
+                classes.wrapping_add(155),
+                &[89, 0, reference(base, 2), 0, 5],
+            );
+        }
+        space.store(
+            WORDS + 9,
+            reference(nodes.wrapping_sub(1).wrapping_mul(114), 2),
+        );
+    }
+
+    // Adds to the word at an address.
+    fn add<M: Memory>(space: &mut Space<M>, address: u32, more: u32) {
+        space.store(address, space.look(address).wrapping_add(more));
+    }
+
+    // Ten nodes: every object that is named gets its mark and no other, and loses it when the collection is given up.
+    fn towers<M: Memory, N: Memory>(space: &mut Space<M>, other: &mut Space<N>) -> bool {
+        tower(space, 10, 2800, 0);
+        tower(other, 10, 2800, 2);
+        let bounds = ends_at(1140, 1183, 2800);
+        let live = begin(space, &Prefix, bounds);
+        let marked = alike(space, other, 2800);
+        give_up(space, bounds);
+        tower(other, 10, 2800, 0);
+        live == 2687 && marked && alike(space, other, 2800)
+    }
+
+    fn towers_over<M: Memory + Drop>(memory: M) -> bool {
+        let mut words = [0u32; 2800];
+        let mut space = Space::new(memory);
+        let mut other = Space::new(&mut words[..]);
+        let passed = towers(&mut space, &mut other);
+        let Space {
+            memory: _,
+            handles: _,
+        } = space;
+        let Space {
+            memory: _,
+            handles: _,
+        } = other;
+        passed
+    }
+
+    #[test]
+    fn places_run_out_over_words(rt: HostRuntime) {
+        let mut words = [0u32; 2800];
+        assert!(rt; towers_over(&mut words[..]));
+    }
+
+    #[test]
+    fn places_run_out_over_bytes(rt: HostRuntime) {
+        let mut bytes = [0u8; 11_200];
+        assert!(rt; towers_over(&mut bytes[..]));
+    }
+
+    // The next three, and whether there is a fourth.
+    fn three(slots: Slots) -> ([Option<u32>; 3], bool) {
+        let mut left = slots;
+        let first = left.pop_first();
+        let second = left.pop_first();
+        let third = left.pop_first();
+        ([first, second, third], left.pop_first().is_some())
+    }
+
+    // A record of 32 fields, the first 30 of them raw; its layout at 34, its map at 38.
+    #[test]
+    fn slots(rt: HostRuntime) {
+        let mut words = [0u32; 43];
+        let mut space = Space::new(&mut words[..]);
+        head(&mut space, 0, 32, 34);
+        write_layout(&mut space, 34, 32, 38);
+        write(&mut space, 38, &[89, 30, 0, 0, 5]);
+        let record = space.slots_of(&Prefix, 0, space.look(0));
+        let layout = space.slots_of(&Prefix, 34, space.look(34));
+        let map = space.slots_of(&Prefix, 38, space.look(38));
+        let Space {
+            memory: _,
+            handles: _,
+        } = space;
+        assert_eq!(rt; three(record), ([Some(1), Some(32), Some(33)], true));
+        assert_eq!(rt;
+            three(record.below(34)),
+            ([Some(1), Some(32), Some(33)], false)
+        );
+        assert_eq!(rt; three(record.below(33)), ([Some(1), Some(32), None], false));
+        assert_eq!(rt; three(record.below(32)), ([Some(1), None, None], false));
+        assert_eq!(rt; three(record.below(1)), ([None; 3], false));
+        assert_eq!(rt; three(record.below(0)), ([None; 3], false));
+        assert_eq!(rt; three(layout), ([Some(2), None, None], false));
+        assert_eq!(rt; three(map), ([Some(2), Some(3), None], false));
+        assert_eq!(rt; three(map.below(3)), ([Some(2), None, None], false));
     }
 
     // All of them, one after the other in the same space.
