@@ -107,7 +107,7 @@ impl Pending {
     {
         let size = size_in(header);
         // In wild words it need not end within the heap's.
-        if size > limit - place {
+        if place + size > limit {
             return;
         }
         let mut left = space.slots_of(scheme, limit, place, header).below(size);

@@ -35,7 +35,7 @@ loop-i-preserved g c =
     let read = λ (a : ℕ). get_or (g.M.Memory.words c.args.space.now.memory) a 0 in
     let seen : (a : ℕ) → a < 16384 → read a ≡ us a = λ a l. sym (view-low _ c.args.space.now.handles a l) in
     let under : i < size = inv.0 i first.small first.holds in
-    let low : p + i < 16384 = omega (arith, c.requires.limit, c.requires.place, c.if-size-limit.false) in
+    let low : p + i < 16384 = omega (arith, c.requires.limit, c.requires.place, c.if-place-size.false) in
     let word = c.read_within-word.ensures ∙ sym (view-low _ c.loop-i.space.handles (p + i) low) in (
       λ k small v. inv.0 k small (and_parts _ _ (sym (first.rest k small) ∙ v)).0,
       inv.1,
@@ -67,7 +67,7 @@ loop-i-preserved-then-refers g c =
     let read = λ (a : ℕ). get_or (g.M.Memory.words c.args.space.now.memory) a 0 in
     let seen : (a : ℕ) → a < 16384 → read a ≡ us a = λ a l. sym (view-low _ c.args.space.now.handles a l) in
     let under : i < size = inv.0 i first.small first.holds in
-    let low : p + i < 16384 = omega (arith, c.requires.limit, c.requires.place, c.if-size-limit.false) in
+    let low : p + i < 16384 = omega (arith, c.requires.limit, c.requires.place, c.if-place-size.false) in
     let word = c.read_within-word.ensures ∙ sym (view-low _ c.loop-i.space.handles (p + i) low) in (
       λ k small v. inv.0 k small (and_parts _ _ (sym (first.rest k small) ∙ v)).0,
       kept_then inv.1 c.mark_at.ensures.kept,
@@ -106,9 +106,9 @@ returns-clause-scanned g c = λ P limit roots todo turns rounds so e on eh go.
     (λ k some l no now. scan-no-value _ P limit so roots todo turns rounds p hp us go.is on (go.sound p on) c.args.header _ reads.rule eh refl read seen reads.ruled
     k some (omega (arith, c.size_in-size.ensures)) _ _ now (sym (reads.values k (omega arith)) ∙ sym (all k l) ∙ no)))
 
-pub returns-then-size-limit-clause-scanned : goal.returns-then-size-limit-clause-scanned
-returns-then-size-limit-clause-scanned g c = λ P limit roots todo turns rounds so e on eh go.
+pub returns-then-place-size-clause-scanned : goal.returns-then-place-size-clause-scanned
+returns-then-place-size-clause-scanned g c = λ P limit roots todo turns rounds so e on eh go.
     let us = view (g.M.Memory.words c.args.space.now.memory) c.args.space.now.handles in
     let o = so.object c.args.place (head-of _ P limit so us c.args.place on) in
     let is : c.size_in-size.result ≡ o.size = c.size_in-size.ensures ∙ ap (λ (w : ℕ). w / 16) (eh ∙ full _ P limit so us go.is c.args.place on) ∙ o.here.big in
-    absurd (omega (arith, is, e, o.ends, so.small, so.holds, c.requires.limit, c.requires.place, c.if-size-limit.true))
+    absurd (omega (arith, is, e, o.ends, so.small, so.holds, c.requires.limit, c.requires.place, c.if-place-size.true))
