@@ -70,13 +70,7 @@ impl Pending {
 
     // Marks what a class names: a layout its map, a map its name and its parent.
     #[inline(always)]
-    fn scan_class<M: Memory>(
-        &mut self,
-        space: &mut Space<M>,
-        limit: u32,
-        place: u32,
-        header: u32,
-    )
+    fn scan_class<M: Memory>(&mut self, space: &mut Space<M>, limit: u32, place: u32, header: u32)
         requires limit { limit ≡ min (length (M.Memory.words space.old.memory)) 16384 }
         requires place { place ≤ limit }
         requires kind { (header / 4 % 4 == 0) ≡ false }

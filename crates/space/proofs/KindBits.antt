@@ -24,9 +24,3 @@ bits-other None n t e one = omega (arith, t, one)
 bits-other (Some Record) n t e one = omega (arith, t, one)
 bits-other (Some Layout) n t e one = false≢true e
 bits-other (Some Map) n t e one = omega (arith, t, one)
-
-pub bits-class : (r : Option Shape) (n : ℕ) → Told r n → false ≡ is_kind Record r → n ≡ 0 → ⊥
-bits-class None n t e none = omega (arith, t, none)
-bits-class (Some Record) n t e none = false≢true e
-bits-class (Some Layout) n t e none = omega (arith, t, none)
-bits-class (Some Map) n t e none = omega (arith, t, none)

@@ -51,7 +51,12 @@ impl Side for Classes {
     }
 
     #[inline(always)]
-    fn slots<M: Memory, S: Scheme>(space: &Space<M>, scheme: &S, limit: u32, object: Object) -> Slots {
+    fn slots<M: Memory, S: Scheme>(
+        space: &Space<M>,
+        scheme: &S,
+        limit: u32,
+        object: Object,
+    ) -> Slots {
         slots_of_class(object.header)
     }
 

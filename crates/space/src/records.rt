@@ -50,7 +50,12 @@ impl Side for Records {
     }
 
     #[inline(always)]
-    fn slots<M: Memory, S: Scheme>(space: &Space<M>, scheme: &S, limit: u32, object: Object) -> Slots {
+    fn slots<M: Memory, S: Scheme>(
+        space: &Space<M>,
+        scheme: &S,
+        limit: u32,
+        object: Object,
+    ) -> Slots {
         space.slots_of_record(scheme, limit, object.place)
     }
 

@@ -48,7 +48,12 @@ pub trait Side {
         ensures { result ≡ nat_le (object.place + object.size) limit };
 
     // Which words of an object of the side hold values.
-    fn slots<M: Memory, S: Scheme>(space: &Space<M>, scheme: &S, limit: u32, object: Object) -> Slots
+    fn slots<M: Memory, S: Scheme>(
+        space: &Space<M>,
+        scheme: &S,
+        limit: u32,
+        object: Object,
+    ) -> Slots
         requires limit { limit ≡ min (length (M.Memory.words space.now.memory)) 16384 }
         requires place { object.place ≤ limit }
         ensures { (object.header / 4 % 4 == 0) ≡ upward → Reads (S.Scheme.meaning scheme.now) (M.Memory.words space.now.memory) object.place object.header result };

@@ -306,6 +306,11 @@ mod tests {
         ([first, second, third], left.pop_first().is_some())
     }
 
+    fn slots_at(space: &Space<&mut [u32]>, place: u32) -> Slots {
+        let limit = space.limit();
+        space.slots_of(&Prefix, limit, place.min(limit), space.look(place))
+    }
+
     // A record of 32 fields, the first 30 of them raw; its layout at 34, its map at 38.
     #[test]
     fn slots(rt: HostRuntime) {
@@ -314,9 +319,9 @@ mod tests {
         head(&mut space, 0, 32, 34);
         write_layout(&mut space, 34, 32, 38);
         write(&mut space, 38, &[89, 30, 0, 0, 5]);
-        let record = space.slots_of(&Prefix, 0, space.look(0));
-        let layout = space.slots_of(&Prefix, 34, space.look(34));
-        let map = space.slots_of(&Prefix, 38, space.look(38));
+        let record = slots_at(&space, 0);
+        let layout = slots_at(&space, 34);
+        let map = slots_at(&space, 38);
         let Space {
             memory: _,
             handles: _,

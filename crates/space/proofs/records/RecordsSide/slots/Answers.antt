@@ -1,6 +1,4 @@
-use Rattle.std.proofs.Common.{ℕ, ◌/◌, ◌%◌, sym, refl, ap, ◌∙◌}
 use Rattle.std.proofs.lemmas.Bool.{eqb-true}
-use Rattle.graph.specs.Places.{value_at}
 use Rattle.space.proofs.Masks.{record-reads}
 use Rattle.space.proofs.records.RecordsSide.slots.Goals as goal
 
