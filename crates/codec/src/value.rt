@@ -3,6 +3,9 @@ ghost use Rattle.std.specs.Prelude.{◌≡◌, ℕ, ◌+◌, ◌*◌, ◌/◌, �
 ghost use Rattle.graph.specs.Laws.{word_number};
 ghost use Rattle.graph.specs.Words.{number_word};
 ghost use Rattle.graph.specs.Step.{in_range};
+ghost use Rattle.codec.specs.Kinds.{kind_tag};
+
+use crate::header::is_record;
 
 /// The word of an empty value.
 pub const EMPTY: u32 = 0;
@@ -60,4 +63,15 @@ pub fn to_class(place: u32) -> u32
     ensures { place < 1_073_741_824 → result ≡ place * 4 + 3 }
 {
     place.wrapping_mul(4).wrapping_add(3)
+}
+
+/// The word that refers to the object with that header at a place: the header's kind gives the tag.
+pub fn to_object(place: u32, header: u32) -> u32
+    ensures { place < 1_073_741_824 → result ≡ place * 4 + kind_tag (header / 4 % 4) }
+{
+    if is_record(header) {
+        to_record(place)
+    } else {
+        to_class(place)
+    }
 }

@@ -12,7 +12,7 @@ use codec::header::{Shape, has_mark, is_map, is_record, marked, shape_in, size_i
 use codec::value::{place_of, refers};
 use memory::Memory;
 use scheme::Scheme;
-use space::{Bounds, Classes, Records, Side, Slots, Space, WORDS};
+use space::{Bounds, Classes, Records, Side, Slots, Space, WORDS, scan};
 
 impl Pending {
     // Marks the object at a place, and keeps the place while there is room. The limit is that of the words to use.
@@ -171,7 +171,7 @@ impl Pending {
     {
         let mut cursor = from;
         'walk: while T::is_before(cursor, end) {
-            let Some(object) = T::see(&space.memory, cursor) else {
+            let Some(object) = scan::<T, M>(&space.memory, cursor) else {
                 break;
             };
             if has_mark(object.header) {
@@ -182,7 +182,7 @@ impl Pending {
         }
     }
 
-    // Marks what the handles name. Drawing goes over them in a loop of its own: a closure for the step would be no plainer than the loop.
+    // Marks what the handles name.
     fn mark_handles<M: Memory>(&mut self, space: &mut Space<M>, limit: u32)
         requires { limit ≡ min (length (M.Memory.words space.old.memory)) 16384 }
         ensures rooted { Rooted (M.Memory.words space.old.memory) space.old.handles self.old (M.Memory.words space.new.memory) space.new.handles self.new }

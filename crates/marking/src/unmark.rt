@@ -7,7 +7,7 @@ ghost use Rattle.marking.specs.Begins.{GivesUp};
 
 use codec::header::{has_mark, unmarked};
 use memory::Memory;
-use space::{Bounds, Classes, Records, Side, Space};
+use space::{Bounds, Classes, Records, Side, Space, scan};
 
 // Takes the marks off a side.
 fn unmark_side<T: Side, M: Memory>(space: &mut Space<M>, from: u32, end: u32)
@@ -17,7 +17,7 @@ fn unmark_side<T: Side, M: Memory>(space: &mut Space<M>, from: u32, end: u32)
 {
     let mut cursor = from;
     'walk: while T::is_before(cursor, end) {
-        let Some(object) = T::see(&space.memory, cursor) else {
+        let Some(object) = scan::<T, M>(&space.memory, cursor) else {
             break;
         };
         if has_mark(object.header) {

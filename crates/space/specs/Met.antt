@@ -1,6 +1,6 @@
 -- The objects that a walk over a side meets.
-use Rattle.std.specs.Prelude.{◌≡◌, ℕ, ◌+◌, ◌%◌, ◌^◌, ◌<◌, ◌≤◌, Bool, true, false, List, Option, MatchOption, IfSome, slice_index}
-use Rattle.space.specs.Weave.{view, Heads, Unthreaded}
+use Rattle.std.specs.Prelude.{◌≡◌, ℕ, ◌+◌, ◌-◌, ◌/◌, ◌%◌, ◌^◌, ◌<◌, ◌≤◌, Bool, true, false, cond, List, Option, MatchOption, slice_index}
+use Rattle.space.specs.Weave.{view, Heads, Unthreads}
 use Rattle.space.specs.Pass.{Sized, size_seen, place_by}
 use Rattle.space.specs.declared.side.Object.{Object}
 
@@ -18,6 +18,19 @@ pub record Goes (up : Bool) (c size : ℕ) : Type 0 where
 pub record Leads (up : Bool) (c size : ℕ) : Type 0 where
   pub some : 0 < size
   pub goes : Goes up c size
+
+-- where the header lies of the object that the cursor has come to: at the cursor on its way up, as far below it as the boundary tag says on its way down
+pub record HeaderAt (up : Bool) (ws : List ℕ) (c p : ℕ) : Type 0 where
+  pub place : p ≡ place_by up c (slice_index ws (c - 1))
+  pub leads : up ≡ false → Leads up c (slice_index ws (c - 1))
+
+-- on its way down there is none by a tag that leads nowhere
+abbrev pub FindsHeader : Bool → List ℕ → ℕ → Option ℕ → Type 0
+FindsHeader up ws c r = MatchOption r ((up ≡ false) × (Leads up c (slice_index ws (c - 1)) → ⊥)) (HeaderAt up ws c)
+
+-- the size of the object with the header h at the place p
+abbrev pub size_by : Bool → ℕ → ℕ → ℕ → ℕ
+size_by up c p h = cond up (h / 16) (c - p)
 
 -- Where nothing is threaded: the object is as its header and its boundary tag say.
 pub record Seen (up : Bool) (ws : List ℕ) (c : ℕ) (o : Object) : Type 0 where
@@ -47,10 +60,8 @@ pub record Astray (up : Bool) (ws hs : List ℕ) (c : ℕ) : Type 0 where
 abbrev pub Met : Bool → List ℕ → List ℕ → ℕ → Option Object → Type 0
 Met up ws hs c o = MatchOption o (Astray up ws hs c) (Read up ws hs c)
 
--- What the list of the object has become, which is to lie before the new cursor t: each of its slots refers there. Where there is no list, all is as it was.
-pub record Paid (up : Bool) (ws hs : List ℕ) (t : ℕ) (vs gs : List ℕ) (o : Object) : Type 0 where
-  pub listed : Goes up t o.size → Unthreaded up ws hs o.place (place_by up t o.size) vs gs
+-- What the list of the object has become, which is to lie before the new cursor t: each of its slots refers there, by the kind that its header tells.
+-- Where there is no list, all is as it was.
+pub record Unthreaded (up : Bool) (ws hs : List ℕ) (t : ℕ) (vs gs : List ℕ) (o : Object) : Type 0 where
+  pub listed : Goes up t o.size → place_by up t o.size < 16384 → Unthreads ws hs o.place (place_by up t o.size) vs gs
   pub none : view ws hs o.place % 2 ≡ 1 → view vs gs ≡ view ws hs
-
-abbrev pub PaidFor : Bool → List ℕ → List ℕ → ℕ → List ℕ → List ℕ → Option Object → Type 0
-PaidFor up ws hs t vs gs o = IfSome o (Paid up ws hs t vs gs)

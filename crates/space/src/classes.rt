@@ -18,32 +18,18 @@ impl Side for Classes {
     }
 
     #[inline(always)]
-    fn see<M: Memory>(memory: &M, cursor: u32) -> Option<Object> {
+    fn header_place<M: Memory>(memory: &M, cursor: u32) -> Option<u32> {
         let size = memory.read_within(cursor as usize - 1);
         // One test for a size of 0 and for one that goes below word 0: either way the place would not be lower.
         let place = cursor.wrapping_sub(size);
         if place >= cursor {
             return None;
         }
-        Some(Object {
-            place,
-            size,
-            header: memory.read_within(place as usize),
-        })
+        Some(place)
     }
 
-    #[inline(always)]
-    fn meet<M: Memory>(space: &mut Space<M>, limit: u32, cursor: u32, to: u32) -> Option<Object> {
-        let size = space.memory.read_within(cursor as usize - 1);
-        let place = cursor.wrapping_sub(size);
-        if place >= cursor {
-            return None;
-        }
-        Some(Object {
-            place,
-            size,
-            header: space.unthread(limit, place, to_class(to.wrapping_sub(size))),
-        })
+    fn size(cursor: u32, place: u32, header: u32) -> u32 {
+        cursor - place
     }
 
     fn fits(limit: u32, object: Object) -> bool {

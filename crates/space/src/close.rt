@@ -36,7 +36,7 @@ impl<M: Memory> Space<M> {
         let mut cursor = from;
         let mut to = from;
         'walk: while T::is_before(cursor, end) {
-            let Some(object) = T::meet(self, limit, cursor, to) else {
+            let Some(object) = self.unthread::<T>(limit, cursor, to) else {
                 break;
             };
             if has_mark(object.header) {

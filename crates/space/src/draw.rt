@@ -31,16 +31,18 @@ impl<M: Memory> Space<M> {
         }
     }
 
-    // Threads each reference of the handle table, by its handle: the words go with their index. Marking has a loop of its own: a closure for the step would be no plainer.
+    // Threads each reference of the handle table, by its handle: the words go with their index.
     fn thread_handles(&mut self, limit: u32)
         requires { limit ≡ min (length (M.Memory.words self.old.memory)) 16384 }
         ensures threaded { ThreadedHandles (M.Memory.words self.old.memory) self.old.handles (M.Memory.words self.new.memory) self.new.handles }
         ensures kept { KeptIn M.Memory.words self.old self.new }
     {
-        let mut left = Slots::of_handles(&self.handles);
-        while let Some(h) = left.pop_first() {
-            let word = self.handles[h as usize];
-            self.thread(limit, Slot::Handle(h), word);
+        // Over a copy of the table, since threading a handle's reference alters no other handle.
+        let table = self.handles;
+        for (h, word) in table.iter().enumerate() {
+            if refers(*word) {
+                self.thread(limit, Slot::Handle(h as u32), *word);
+            }
         }
     }
 
@@ -70,7 +72,7 @@ impl<M: Memory> Space<M> {
         let mut cursor = from;
         let mut to = from;
         'walk: while T::is_before(cursor, end) {
-            let Some(object) = T::meet(self, limit, cursor, to) else {
+            let Some(object) = self.unthread::<T>(limit, cursor, to) else {
                 break;
             };
             if has_mark(object.header) {

@@ -17,32 +17,12 @@ impl Side for Records {
         cursor < end
     }
 
-    #[inline(always)]
-    fn see<M: Memory>(memory: &M, cursor: u32) -> Option<Object> {
-        let header = memory.read_within(cursor as usize);
-        let size = size_in(header);
-        if size == 0 {
-            return None;
-        }
-        Some(Object {
-            place: cursor,
-            size,
-            header,
-        })
+    fn header_place<M: Memory>(memory: &M, cursor: u32) -> Option<u32> {
+        Some(cursor)
     }
 
-    #[inline(always)]
-    fn meet<M: Memory>(space: &mut Space<M>, limit: u32, cursor: u32, to: u32) -> Option<Object> {
-        let header = space.unthread(limit, cursor, to_record(to));
-        let size = size_in(header);
-        if size == 0 {
-            return None;
-        }
-        Some(Object {
-            place: cursor,
-            size,
-            header,
-        })
+    fn size(cursor: u32, place: u32, header: u32) -> u32 {
+        size_in(header)
     }
 
     fn fits(limit: u32, object: Object) -> bool {

@@ -2,9 +2,8 @@
 ghost use Rattle.std.specs.Prelude.{◌≡◌, ◌+◌, ◌*◌, ◌/◌, ◌%◌, ◌^◌, ◌<◌, ◌≤◌, ◌==◌, Bool, false, length, min, nat_le};
 ghost use Rattle.space.specs.Ends.{innermost, taken, tag_by};
 ghost use Rattle.space.specs.Pass.{place_by, next_by, before};
-ghost use Rattle.space.specs.Keeping.{KeptIn};
 ghost use Rattle.space.specs.Slots.{Reads};
-ghost use Rattle.space.specs.Met.{Among, Goes, Sees, Met, PaidFor};
+ghost use Rattle.space.specs.Met.{Among, Goes, FindsHeader, size_by, Sees};
 
 use crate::{Bounds, Slots, Space};
 use memory::Memory;
@@ -27,19 +26,16 @@ pub trait Side {
     fn is_before(cursor: u32, end: u32) -> bool
         ensures { result ≡ before upward cursor end };
 
-    // The object that the cursor has come to, where nothing is threaded. None if its size would not lead on, as in wild words.
-    fn see<M: Memory>(memory: &M, cursor: u32) -> Option<Object>
+    // Where the header lies of the object that the cursor has come to, be references threaded or not.
+    // None if its boundary tag would not lead on, as in wild words.
+    fn header_place<M: Memory>(memory: &M, cursor: u32) -> Option<u32>
         requires { Among upward (min (length (M.Memory.words memory.now)) 16384) cursor }
-        ensures { Sees upward (M.Memory.words memory.now) cursor result };
+        ensures { FindsHeader upward (M.Memory.words memory.now) cursor result };
 
-    // The same where references are threaded: the list of the object is followed to its header, and each slot of it gets the reference to where the object is
-    // to lie, `to` being the new cursor.
-    fn meet<M: Memory>(space: &mut Space<M>, limit: u32, cursor: u32, to: u32) -> Option<Object>
-        requires limit { limit ≡ min (length (M.Memory.words space.old.memory)) 16384 }
-        requires cursor { Among upward limit cursor }
-        ensures met { Met upward (M.Memory.words space.old.memory) space.old.handles cursor result }
-        ensures paid { PaidFor upward (M.Memory.words space.old.memory) space.old.handles to (M.Memory.words space.new.memory) space.new.handles result }
-        ensures kept { KeptIn M.Memory.words space.old space.new };
+    // The size of the object with that header at that place, which the cursor has come to.
+    fn size(cursor: u32, place: u32, header: u32) -> u32
+        requires { upward ≡ false → place ≤ cursor }
+        ensures { result ≡ size_by upward cursor place header };
 
     // Whether the object ends within the words to use. Going down it does, since the cursor stood at its end.
     fn fits(limit: u32, object: Object) -> bool
@@ -74,4 +70,23 @@ pub trait Side {
     // The reference to the object of the side at a place.
     fn reference(place: u32) -> u32
         ensures { place < 1073741824 → result ≡ place * 4 + tag_by upward };
+}
+
+/// The object that the cursor has come to, where nothing is threaded. None if its size would not lead on, as in wild words.
+#[inline(always)]
+pub fn scan<T: Side, M: Memory>(memory: &M, cursor: u32) -> Option<Object>
+    requires { Among T.Side.upward (min (length (M.Memory.words memory.now)) 16384) cursor }
+    ensures { Sees T.Side.upward (M.Memory.words memory.now) cursor result }
+{
+    let place = T::header_place(memory, cursor)?;
+    let header = memory.read_within(place as usize);
+    let size = T::size(cursor, place, header);
+    if size == 0 {
+        return None;
+    }
+    Some(Object {
+        place,
+        size,
+        header,
+    })
 }

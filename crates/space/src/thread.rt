@@ -1,13 +1,13 @@
 // Threading: the slots that refer to an object form a list that begins at its header's place and ends with the header.
-ghost use Rattle.std.specs.Prelude.{◌≡◌, ℕ, ◌+◌, ◌*◌, ◌%◌, ◌<◌, Bool, length, min};
-ghost use Rattle.space.specs.Ends.{tag_by};
+ghost use Rattle.std.specs.Prelude.{◌≡◌, length, min, IfSome};
+ghost use Rattle.space.specs.Met.{Among, Met, Unthreaded};
 ghost use Rattle.space.specs.Slots.{address, There};
-ghost use Rattle.space.specs.Weave.{view, Heads, Stored, Threaded, Unthreaded};
+ghost use Rattle.space.specs.Weave.{view, Rewrites, Stored, Threaded};
 ghost use Rattle.space.specs.Keeping.{KeptIn};
 
-use crate::{ADDRESSES, Space, WORDS};
+use crate::{ADDRESSES, Object, Side, Space, WORDS};
 use codec::link::{address_of, ends_list, link_to};
-use codec::value::place_of;
+use codec::value::{place_of, to_object};
 use memory::Memory;
 
 // Where a reference stands that is threaded: in a word of the memory, or in a handle.
@@ -62,6 +62,21 @@ impl<M: Memory> Space<M> {
         self.fill(Slot::Word(place), link_to(slot.address()));
     }
 
+    // The word at an address: 0 past the last, and past the words to use.
+    #[inline(always)]
+    fn look_within(&self, limit: u32, address: u32) -> u32
+        requires { limit ≡ min (length (M.Memory.words self.now.memory)) 16384 }
+        ensures { result ≡ view (M.Memory.words self.now.memory) self.now.handles address }
+    {
+        if address < limit {
+            self.memory.read_within(address as usize)
+        } else if WORDS <= address && address < ADDRESSES {
+            self.handles[(address - WORDS) as usize]
+        } else {
+            0
+        }
+    }
+
     // Puts the word at an address, and gives what stood there: 0 past the last, and past the words to use.
     #[inline(always)]
     fn replace(&mut self, limit: u32, address: u32, word: u32) -> u32
@@ -83,28 +98,55 @@ impl<M: Memory> Space<M> {
         }
     }
 
-    // Takes the list off the header at the place of the memory, so that it stands there again, and puts the reference into each slot of the list. Gives the header.
+    // Follows the list that begins with the link, so many turns, and puts the reference into each of its slots.
     #[inline(always)]
-    pub(crate) fn unthread(&mut self, limit: u32, place: u32, reference: u32) -> u32
-        requires limit { limit ≡ min (length (M.Memory.words self.old.memory)) 16384 }
-        requires place { place < limit }
-        ensures header { Heads (M.Memory.words self.old.memory) self.old.handles place result }
-        ensures woven { (up : Bool) (q : ℕ) → (q < 16384 → reference ≡ q * 4 + tag_by up) → Unthreaded up (M.Memory.words self.old.memory) self.old.handles place q (M.Memory.words self.new.memory) self.new.handles }
-        ensures none { view (M.Memory.words self.old.memory) self.old.handles place % 2 ≡ 1 → view (M.Memory.words self.new.memory) self.new.handles ≡ view (M.Memory.words self.old.memory) self.old.handles }
+    fn rewrite(&mut self, limit: u32, first: u32, turns: u32, reference: u32)
+        requires { limit ≡ min (length (M.Memory.words self.old.memory)) 16384 }
+        ensures rewrites { Rewrites (M.Memory.words self.old.memory) self.old.handles first turns reference (M.Memory.words self.new.memory) self.new.handles }
         ensures kept { KeptIn M.Memory.words self.old self.new }
     {
-        let mut word = self.memory.read_within(place as usize);
-        if ends_list(word) {
-            return word;
+        let mut link = first;
+        for turn in 0..turns {
+            link = self.replace(limit, address_of(link), reference);
         }
-        // Turns are counted, since in wild words a list need not end: a `while` would have no measure.
-        for turn in 0..ADDRESSES {
-            if ends_list(word) {
-                break;
+    }
+
+    // Takes the list off the object that the cursor has come to: its header stands at its place again, and each slot of the list refers to where it
+    // is to lie, `to` being the new cursor. Gives the object; none if its size would not lead on, as in wild words.
+    #[inline(always)]
+    pub(crate) fn unthread<T: Side>(&mut self, limit: u32, cursor: u32, to: u32) -> Option<Object>
+        requires limit { limit ≡ min (length (M.Memory.words self.old.memory)) 16384 }
+        requires cursor { Among T.Side.upward limit cursor }
+        ensures met { Met T.Side.upward (M.Memory.words self.old.memory) self.old.handles cursor result }
+        ensures unthreaded { IfSome result (Unthreaded T.Side.upward (M.Memory.words self.old.memory) self.old.handles to (M.Memory.words self.new.memory) self.new.handles) }
+        ensures kept { KeptIn M.Memory.words self.old self.new }
+    {
+        let place = T::header_place(&self.memory, cursor)?;
+        let first = self.memory.read_within(place as usize);
+        let mut word = first;
+        // Turns are counted, since in wild words a list need not end.
+        let mut turns = 0;
+        let header = 'list: loop {
+            if ends_list(word) || turns == ADDRESSES {
+                break word;
             }
-            word = self.replace(limit, address_of(word), reference);
+            turns += 1;
+            word = self.look_within(limit, address_of(word));
+        };
+        let size = T::size(cursor, place, header);
+        if size == 0 {
+            return None;
         }
-        self.fill(Slot::Word(place), word);
-        word
+        if turns > 0 {
+            // The references could not be made before: their tag is that of the kind which the header tells, and a record's header tells its size.
+            let reference = to_object(T::place(to, size), header);
+            self.rewrite(limit, first, turns, reference);
+            self.fill(Slot::Word(place), header);
+        }
+        Some(Object {
+            place,
+            size,
+            header,
+        })
     }
 }

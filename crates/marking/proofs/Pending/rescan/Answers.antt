@@ -19,7 +19,7 @@ walk-preserved g c =
     let ne = apart up c.walk.cursor c.args.end (sym c.is_before.ensures ∙ c.walk-test.true) in
     elim c.if-has_mark.branch [
       | then-has_mark w ↦
-          let scan = w.scan.ensures in
+          let scan = w.scan-then-has_mark.ensures in
           let drain = w.drain.ensures in
           rw (w.self-is, w.space-is) (
             kept_then i.0 (kept_then scan.kept drain.kept),

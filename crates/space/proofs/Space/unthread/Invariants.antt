@@ -1,13 +1,12 @@
-use Rattle.std.proofs.Common.{◌≡◌, ℕ, ◌%◌, length}
-use Rattle.space.specs.Weave.{view, Kept}
-use Rattle.space.proofs.Wovens.{Run}
+use Rattle.std.proofs.Common.{◌≡◌, ℕ, ◌-◌, ◌%◌, ◌<◌, ◌≤◌, List, length}
+use Rattle.space.specs.Weave.{view, Strand}
+use Rattle.space.proofs.Following.{Onward}
 use Rattle.space.proofs.Space.unthread.Given as goal
 
-abbrev pub invariant-loop-turn : goal.invariant-loop-turn
-invariant-loop-turn g l =
-    let ws = g.M.Memory.words l.initial.self.memory in
-    let vs = g.M.Memory.words l.self.memory in
-    ((stop : ℕ) (goal : ℕ → ℕ) → stop % 2 ≡ 1 →
-    Run (length ws) l.reference stop goal (view ws l.initial.self.handles) l.initial.word 0 →
-    Run (length ws) l.reference stop goal (view vs l.self.handles) l.word l.turn)
-    × Kept ws l.initial.self.handles vs l.self.handles
+abbrev pub invariant-list : goal.invariant-list
+invariant-list g l =
+    let look = view (g.M.Memory.words l.self.memory) l.self.handles in
+    ((stop : ℕ) (ss : List ℕ) → stop % 2 ≡ 1 → Strand look l.initial.word ss stop → Onward look stop (length ss) l.word l.turns) × (l.word < 4294967296) × (l.turns ≤ 16416)
+
+abbrev pub decreases-list : goal.decreases-list
+decreases-list g l = 16416 - l.turns
