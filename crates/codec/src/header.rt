@@ -1,4 +1,4 @@
-// Headers: 1 + 2×mark + 4×kind + 16×size.
+// Headers: bit 0 is set, bit 1 is the mark, bits 2 and 3 are the kind, and the bits above are the size.
 ghost use Rattle.std.specs.Prelude.{◌≡◌, ℕ, ◌+◌, ◌-◌, ◌*◌, ◌/◌, ◌%◌, ◌<◌, ◌≤◌, Bool, false, if◌then◌else◌, ◌==◌, nat_eq, MatchOption};
 ghost use Rattle.graph.specs.Words.{header};
 ghost use Rattle.codec.specs.Kinds.{shape_number};

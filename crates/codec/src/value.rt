@@ -1,4 +1,4 @@
-// Value words: 0 is empty, n×4+1 modulo 2^32 a number, p×4+2 the record at place p, p×4+3 the class there.
+// Value words: the two lowest bits are the tag, 1 for a number, 2 for a record, 3 for a class; above it stands the number or the place. 0 is empty.
 ghost use Rattle.std.specs.Prelude.{◌≡◌, ℕ, ◌+◌, ◌*◌, ◌/◌, ◌%◌, ◌<◌, ◌≤◌, true, ℤ, nat_le};
 ghost use Rattle.graph.specs.Laws.{word_number};
 ghost use Rattle.graph.specs.Words.{number_word};

@@ -39,13 +39,13 @@ pub const LONGEST_INPUT: usize = 65_536;
 pub enum TextFault {
     /// More bytes of input than a load may have.
     TooLong,
-    /// The first line is not the five names, each once.
+    /// The first line does not give each of the five columns its place.
     NoNames,
-    /// A line of more than 80 bytes, or one that is not five values with one space between.
+    /// A line that is too long, or that single spaces do not cut into five values.
     NoShape,
-    /// The call word is not in the table.
+    /// No call has this word.
     NoWord,
-    /// A value that its column does not take.
+    /// A value that does not do for its column.
     NoValue(Argument),
 }
 

@@ -11,11 +11,11 @@ use Rattle.graph.specs.Words.{between, low_end, high_end, place_of, reference, v
 use Rattle.graph.specs.Advance.{State, advance, memory_words, handles_words}
 use Rattle.graph.specs.Sound.{SoundState}
 
--- where a new object stands: innermost on its side
+-- where a new object stands: next to the gap between the sides
 abbrev pub innermost : ℕ → Graph → List Bool → Object → ℕ
 innermost W g s o = cond (is_record o) (low_end g s) (high_end W g s - size o)
 
--- the words are those of the objects t and of a new object innermost on its side, which handle d names
+-- the words are those of the objects t, with one more that is the innermost of its side and to which handle d refers
 pub record WithNew (W : ℕ) (g : Graph) (t : List Bool) (d : ℕ) (o : Object) (after : State) : Type 0 where
   pub memory : memory_words W after ≡ put (image W g t []) (innermost W g t o) (object_words (reference W g t) false o)
   pub handles : handles_words W after ≡ slice_set (handle_words W g t) d (innermost W g t o * 4 + cond (is_record o) 2 3)
@@ -45,7 +45,7 @@ pub record Altered (m : Meaning) (W : ℕ) (c : Call) (before : State) (out : Ou
   pub told : (n k : ℤ) → out ≡ Ok n → (row m W before.graph c).1 ≡ tells k → Unaltered W before after
   -- a collection leaves the packed words
   pub collected : (n : ℤ) → out ≡ Ok n → (row m W before.graph c).1 ≡ collects → PackedAs W before.graph after
-  -- a new object is put innermost: into the words as they were where there was room, else into the packed words of the graph before it
+  -- a new object is put next to the gap: where that was wide enough into the words of before, else into the packed words that the collection left
   pub made :
       (n : ℤ) (d : ℕ) (o : Object) → out ≡ Ok n → (row m W before.graph c).1 ≡ makes d o → size o ≤ between W before.graph before.standing →
       WithNew W before.graph before.standing d o after

@@ -18,7 +18,7 @@ abbrev pub shown : Outcome → Line
 shown (Ok n) = ok n 0
 shown (Err r) = no (refusal_number r) (refusal_position r)
 
--- what each of the calls tells, over a new heap of W words
+-- what each call of a list tells, from an empty heap of W words on
 abbrev pub told : Meaning → ℕ → List Call → List Line
 told m W calls = map shown (advances m W calls start).0
 
@@ -73,7 +73,7 @@ pub record Worked : Type 0 where
   pub half_upward : told prefix 200 (Map 0 1 31 31 ∷ Fill ∷ []) ≡ granted ∷ ok (pos 3) 0 ∷ []
   -- the record in its own field is no less garbage
   pub in_its_own_field : told prefix 64 (three_objects ++ (Save 2 1 2 ∷ Clear 2 ∷ Collect ∷ [])) ≡ granted ∷ granted ∷ granted ∷ granted ∷ granted ∷ ok (pos 9) 0 ∷ []
-  -- a second map alone, whose name is the record
+  -- another map is all that is held, and the record is its name
   pub by_its_name :
       told prefix 64 (three_objects ++ (Map 5 0 2 31 ∷ Clear 0 ∷ Clear 1 ∷ Clear 2 ∷ Collect ∷ []))
       ≡ granted ∷ granted ∷ granted ∷ granted ∷ granted ∷ granted ∷ granted ∷ ok (pos 19) 0 ∷ []

@@ -9,7 +9,7 @@ use Rattle.graph.specs.Words.{place_of, record_stands, class_stands}
 abbrev pub refers : ℕ → Bool
 refers w = nat_le 2 (w % 4)
 
--- whether word i of an object holds a value: of a record all but the header and the raw fields, of a layout the map, of a map its name and parent
+-- whether word i of an object holds a value: words 2 and 3 of a map, word 2 of a layout, and of a record every word but the header and raw fields
 abbrev pub value_at : Meaning → ℕ → ℕ → ℕ → Bool
 value_at m kind rule i =
     cond (kind == 0) (i == 1 || (nat_le 2 i && not (is_raw m rule (i - 2)))) (cond (kind == 1) (i == 2) (i == 2 || i == 3))
@@ -41,7 +41,7 @@ module _ (W : ℕ) (g : Graph) (s : List Bool) where
   owner zero a = 0
   owner (suc n) a = cond (holds n a) (suc n) (owner n a)
 
-  -- how many of the first j objects are standing records, and standing classes
+  -- the number of standing records, and of standing classes, among the objects before position j
   abbrev pub records : ℕ → ℕ
   records = total (λ q. cond (record_stands g s q) 1 0)
 

@@ -17,10 +17,10 @@ module _ (W : ℕ) (g : Graph) (stood kept : List Bool) where
   kept_right q j = cond (class_stands g kept j && nat_lt (place_of W g stood q) (place_of W g stood j)) (size (object_at g j)) 0
 
 pub record Slides (W : ℕ) (g : Graph) (stood kept : List Bool) : Type 0 where
-  -- a record's new place is the sum of the sizes of the kept records that stood left of it
+  -- before a kept record there stand as many words as the kept records had that were on its left
   pub records :
       (q : ℕ) → slice_index_or kept q false ≡ true → is_record (object_at g q) ≡ true → place_of W g kept q ≡ total (kept_left W g stood kept q) (length g.objects)
-  -- a class's new end is W less the sizes of the kept classes that stood right of it
+  -- behind a kept class there stand as many words, up to W, as the kept classes had that were on its right
   pub classes :
       (q : ℕ) → slice_index_or kept q false ≡ true → is_record (object_at g q) ≡ false →
       place_of W g kept q + size (object_at g q) ≡ W - total (kept_right W g stood kept q) (length g.objects)

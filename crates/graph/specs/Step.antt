@@ -27,7 +27,7 @@ object_kind (a_record l cells) = 2
 object_kind (a_layout c m) = 3
 object_kind (a_map r n p) = 4
 
--- 0 empty, 1 number, 2 record, 3 layout, 4 map
+-- the kinds by number: 2, 3 and 4 for a record, a layout and a map, 1 for a number and 0 for nothing
 abbrev pub kind_of : Graph → Value → ℕ
 kind_of g empty = 0
 kind_of g (number n) = 1
@@ -55,19 +55,19 @@ abbrev pub cell_value : Cell → Value
 cell_value (raw w) = empty
 cell_value (value v) = v
 
--- the field count of a record or layout, the rule of a map
+-- the figure of an object: for a map its rule, else how many fields it has or gives
 abbrev pub figure_of : Object → ℕ
 figure_of (a_record l cells) = length cells
 figure_of (a_layout c m) = c
 figure_of (a_map r n p) = r
 
--- how many fields of a layout are raw
+-- of a layout's fields, the number of raw ones
 abbrev pub layout_raws : Meaning → Graph → Object → ℕ
 layout_raws m g (a_record l cells) = 0
 layout_raws m g (a_layout c n) = raws m (figure_of (object_at g n)) c
 layout_raws m g (a_map r n p) = 0
 
--- the record's layout, the layout's map, the map's name (k = 2) or its parent (k = 3)
+-- part k of an object: of a record its layout (k = 0), of a layout its map (1), of a map its name (2) or parent (3)
 abbrev pub part_of : Object → ℕ → Value
 part_of (a_record l cells) k = object l
 part_of (a_layout c m) k = object m
@@ -79,7 +79,7 @@ same_number (pos m) (negsuc n) = false
 same_number (negsuc m) (pos n) = false
 same_number (negsuc m) (negsuc n) = m == n
 
--- both empty, equal numbers or one object
+-- whether two values are the same: the same number, the same object, or nothing twice
 abbrev pub same_value : Value → Value → Bool
 same_value empty empty = true
 same_value empty (number n) = false
@@ -91,7 +91,7 @@ same_value (object p) empty = false
 same_value (object p) (number n) = false
 same_value (object p) (object q) = p == q
 
--- whether a number is in the range of value words, −536,870,912 to 536,870,911
+-- whether 30 bits with sign can hold a number: it is at least −536,870,912 and at most 536,870,911
 abbrev pub in_range : ℤ → Bool
 in_range (pos n) = nat_lt n 536_870_912
 in_range (negsuc n) = nat_lt n 536_870_912
@@ -106,7 +106,7 @@ fresh_cell false = value empty
 abbrev pub fresh_cells : Meaning → ℕ → ℕ → List Cell
 fresh_cells m r n = map (λ i. fresh_cell (is_raw m r i)) (range_with_len 0 n)
 
--- a new record of the layout at position q
+-- the record that is made from the layout at position q: nothing in it yet
 abbrev pub fresh_record : Meaning → Graph → ℕ → Object → Object
 fresh_record m g q (a_record l cells) = a_record q []
 fresh_record m g q (a_layout c n) = a_record q (fresh_cells m (figure_of (object_at g n)) c)
@@ -160,7 +160,7 @@ module _ (g : Graph) where
   abbrev pub holds_parent : ℕ → ℕ → Check
   holds_parent h at = not (kind_of g (held g h) == 0 || kind_of g (held g h) == 4) refuses OtherKind at
 
-  -- handle h holds a record, a layout or a map
+  -- handle h holds an object of any kind
   abbrev pub holds_object : ℕ → ℕ → Check
   holds_object h at = ltb (kind_of g (held g h)) 2 refuses OtherKind at
 
@@ -186,7 +186,7 @@ part_kind zero = 2
 part_kind (suc zero) = 3
 part_kind (suc (suc k)) = 4
 
--- live words × 100 / W to the nearest whole, a half upward; 0 if W is 0
+-- of W words the live ones in a hundred, rounded to the next whole number, with a half counted up; no words give 0
 abbrev pub percent : ℕ → ℕ → ℕ
 percent live zero = 0
 percent live (suc w) = (200 * live + suc w) / (2 * suc w)
@@ -202,7 +202,7 @@ pub data Act : Type 0 where
   writes : ℕ → ℕ → Cell → Act
   -- nothing changes, and a number is told
   tells : ℤ → Act
-  -- the live words are told
+  -- the answer is the number of live words
   collects : Act
 
 -- the table of the calls: the conditions in their order, but for that on room, and what the call does
@@ -244,7 +244,7 @@ after g (writes q i x) = change g q (with_cell (object_at g q) i x)
 after g (tells n) = g
 after g collects = g
 
--- the last condition: the live words and the new object's are more than W
+-- the last condition: W has no room for the new object beside the live words
 abbrev pub full : ℕ → Graph → Act → Bool
 full W g (sets h v) = false
 full W g (makes d o) = nat_lt W (live_words g + size o)

@@ -34,7 +34,7 @@ module _ (g : Graph) (standing : List Bool) where
 abbrev pub place_of : ℕ → Graph → List Bool → ℕ → ℕ
 place_of W g standing q = cond (is_record (object_at g q)) (total (record_size g standing) q) (W - total (class_size g standing) (suc q))
 
--- how many words lie between the two sides
+-- the words of the gap between the records and the classes
 abbrev pub between : ℕ → Graph → List Bool → ℕ
 between W g standing = W - words_of g standing
 
@@ -45,13 +45,13 @@ low_end g standing = total (record_size g standing) (length g.objects)
 abbrev pub high_end : ℕ → Graph → List Bool → ℕ
 high_end W g standing = W - total (class_size g standing) (length g.objects)
 
--- p×4+2 refers to the record at place p, p×4+3 to the class there
+-- the word that refers to an object: four times the place of its header, and the tag, 2 for a record and 3 for a class
 abbrev pub reference : ℕ → Graph → List Bool → ℕ → ℕ
 reference W g standing q = place_of W g standing q * 4 + cond (is_record (object_at g q)) 2 3
 
 -- Values and objects as words. `ref` has the reference to each position.
 
--- n×4+1, modulo 2^32, of any number; negsuc n is −(n+1)
+-- the word of a number: four times the number and the tag 1, in 32 bits; negsuc n is −(n+1)
 abbrev pub number_word : ℤ → ℕ
 number_word (pos n) = (n * 4 + 1) % 2 ^ 32
 number_word (negsuc n) = (2 ^ 32 + 1 - (n + 1) * 4 % 2 ^ 32) % 2 ^ 32

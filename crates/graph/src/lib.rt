@@ -28,81 +28,81 @@ pub enum Call {
         target: u32,
         source: u32,
     },
-    /// The target gets a new map of the rule, with the values of two handles as its name and parent.
+    /// Makes a map of the rule, whose name and parent are the values of two handles; the target refers to it.
     Map {
         target: u32,
         rule: u32,
         name: u32,
         parent: u32,
     },
-    /// The target gets a new layout of so many fields, with the map in a handle.
+    /// Makes a layout under the map that a handle holds, for records of so many fields; the target refers to it.
     Layout {
         target: u32,
         fields: u32,
         map: u32,
     },
-    /// The target gets a new record of the layout in a handle: raw fields 0, the others empty.
+    /// Makes a record of the layout that a handle holds; the target refers to it. Its raw fields are 0, and no other holds a value.
     Record {
         target: u32,
         layout: u32,
     },
-    /// The target takes a value field of the record.
+    /// The target takes the value in a field of the record.
     Load {
         target: u32,
         record: u32,
         field: u32,
     },
-    /// A value field of the record takes the value of the source.
+    /// A field of the record takes the value in the source.
     Save {
         record: u32,
         field: u32,
         source: u32,
     },
-    /// Answers a raw field.
+    /// Tells the word in a raw field.
     RawLoad {
         record: u32,
         field: u32,
     },
-    /// A raw field becomes the word.
+    /// Puts the word into a raw field.
     RawSave {
         record: u32,
         field: u32,
         word: u32,
     },
-    /// Answers 0 empty, 1 number, 2 record, 3 layout, 4 map.
+    /// Tells what a handle holds, by the number of its kind: 1 for a number, 2 to 4 for a record, a layout and a map, and 0 for nothing.
     Kind {
         handle: u32,
     },
-    /// Answers the number in the handle.
+    /// Tells the number that a handle holds.
     Value {
         handle: u32,
     },
-    /// Answers 1 if both are empty, equal numbers or one object, else 0.
+    /// Tells 1 where two handles hold the same number, the same object, or nothing both, and 0 where they do not.
     Same {
         first: u32,
         second: u32,
     },
-    /// The target takes part 0, the record's layout, 1, the layout's map, 2, the map's name, or 3, its parent.
+    /// The target takes a part of the object: with 0 the layout of a record, with 1 the map of a layout, with 2 a map's name, with 3 its parent.
     Part {
         target: u32,
         object: u32,
         part: u32,
     },
-    /// Answers the field count of a record or layout, the rule of a map.
+    /// Tells how many fields a record or a layout has, or which rule a map.
     Figure {
         handle: u32,
     },
-    /// Answers how many fields of the layout are raw.
+    /// Tells the number of raw fields that a layout gives its records.
     Raws {
         handle: u32,
     },
-    /// Answers the live words.
+    /// Packs the heap, and tells the live words.
     Collect,
-    /// Answers the live words in a hundred of the heap's, to the nearest whole.
+    /// Tells how full the heap is: its live words in a hundred of all, rounded.
     Fill,
-    /// A collection by steps, begun, drawn and closed: it counts as one collect.
+    /// A collection that is begun, drawn and closed, one after another: the same as `Collect`.
     Stepped,
-    /// A collection that was begun and given up: it counts as none.
+    /// A collection that is begun and then given up: nothing comes of it.
     GivenUp,
 }
 
@@ -111,7 +111,7 @@ pub enum Call {
 pub enum Refusal {
     /// A handle above 31.
     NoHandle(u8),
-    /// A number outside the range of value words.
+    /// A number that 30 bits with sign cannot hold.
     NoNumber(u8),
     /// A field count above 32.
     TooWide(u8),
@@ -119,13 +119,13 @@ pub enum Refusal {
     NoPart(u8),
     /// A rule that the scheme does not admit.
     NoRule(u8),
-    /// A handle that holds another kind than the call needs.
+    /// A handle that does not hold what the call needs there.
     OtherKind(u8),
-    /// A field number that is not below the record's field count.
+    /// A field that the record does not have.
     NoField(u8),
-    /// A raw call on a value field, or a value call on a raw one.
+    /// A field that is raw where the call needs a value, or holds a value where it needs raw bits.
     OtherField(u8),
-    /// The live words and the new object's do not go into the heap.
+    /// No room for the new object beside the live words.
     Full,
 }
 

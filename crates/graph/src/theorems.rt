@@ -43,8 +43,8 @@ pub fn laws_stand() -> u8
 
 ghost use Rattle.graph.specs.Sliding.{KeptSlide, ReachableSlide};
 
-/// Where kept objects slide to, by the places of before: a record to the sum of the sizes of the kept records left of it, a class to W less
-/// the sizes of the kept classes right of it; and the order stays. A collection keeps exactly the reachable objects.
+/// Where kept objects slide to, by the places of before: each so far outward that on its outer side there is room for the kept objects of its
+/// side that stood there, and for nothing else; and the order stays. A collection keeps exactly the reachable objects.
 pub fn sliding_stands() -> u8
     ensures any { KeptSlide }
     ensures reachable { ReachableSlide }
@@ -56,7 +56,7 @@ ghost use Rattle.graph.specs.Altered.{CallsAlter};
 ghost use Rattle.graph.specs.Runs.{CollectionsUnnoticed};
 
 /// Which words each call alters: those that are named for it and no others; refusal 31 and a collection leave the packed words, and a
-/// making call that collected leaves those with the new object innermost.
+/// call that had to collect to make an object leaves those and the object, next to the gap.
 pub fn alterations_stand() -> u8
     ensures { CallsAlter }
 {
@@ -72,7 +72,7 @@ pub fn collections_unnoticed() -> u8
 
 ghost use Rattle.graph.specs.ReadBack.{NumbersKept, RawWordsKept, ValuesKept};
 
-/// What was stored is read back: a number, a raw word, and the value of a field, be it empty, a number or an object.
+/// What was stored is read back: the number of a handle, the word of a raw field, and whatever a field may hold as its value.
 pub fn stored_is_read_back() -> u8
     ensures numbers { NumbersKept }
     ensures raws { RawWordsKept }

@@ -141,7 +141,7 @@ module _ (m : Meaning) (W : ℕ) (g : Graph) (s : List Bool) (snd : Sound m W g 
       subst (λ (x : ℕ). get_or (reachable g) x false ≡ true) (sym e) (reachable-complete g r.by (below-many W g s snd.fits snd.as_long r.by r.stands) r.way))
       (λ t. done.every (place_of W g s q) (reach-in q (reachable-sound g q t)))
 
-  -- The sum of the sizes of the marked objects.
+  -- How many words the marked objects take.
 
   module _ (mk : List Bool) (sub : (q : ℕ) → get_or mk q false ≡ true → get_or s q false ≡ true) where
     -- a is the place of one of the first n objects of mk

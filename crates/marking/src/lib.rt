@@ -1,4 +1,4 @@
-// Marking: exactly the reachable objects, with at most 64 pending places outside the memory.
+// Marking: each object that can be reached gets its mark, and no other. Besides the heap's own words it takes a list of 64 places.
 #![tactic(auto)]
 
 use arrayvec::ArrayVec;

@@ -68,7 +68,7 @@ impl Pending {
         }
     }
 
-    // Marks what a class names: a layout its map, a map its name and its parent.
+    // Marks what a class refers to: words 2 and 3 of a map, word 2 of a layout.
     #[inline(always)]
     fn scan_class<M: Memory>(&mut self, space: &mut Space<M>, limit: u32, place: u32, header: u32)
         requires limit { limit ≡ min (length (M.Memory.words space.old.memory)) 16384 }

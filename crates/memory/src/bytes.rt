@@ -5,7 +5,7 @@ ghost use Rattle.memory.specs.Ranges.{shifted, cleared};
 
 use crate::Memory;
 
-/// Four bytes are a word, the most significant first; up to three bytes left over at the end are never touched.
+/// A word is a group of four bytes, its first the highest. Up to three bytes behind the last group stay as they are.
 impl Memory for &mut [u8] {
     ghost words = { λ m. words_of m.now };
 

@@ -27,7 +27,7 @@ pub enum Word {
     Fill,
 }
 
-// By slice patterns, as the rules ask: a `TryFrom` would hold the same match.
+// By slice patterns: the bytes of a word are its case. A `TryFrom` would hold the same match.
 /// The word that the bytes spell, where it is in the table. Words are written in small letters only.
 pub fn word_of(bytes: &[u8]) -> Option<Word>
     ensures { MatchOption result ((w : Word) → bytes.now ≢ name w) (λ w. bytes.now ≡ name w) }
