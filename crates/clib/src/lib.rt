@@ -64,7 +64,7 @@ where
     Ok(answer)
 }
 
-/// Gives a list of calls to a resting heap, one after another, and writes their answers.
+/// Gives calls to a resting heap, one after another, and writes their answers.
 #[unsafe(no_mangle)]
 pub extern "C" fn fusuma_give(
     words: &mut [u32],

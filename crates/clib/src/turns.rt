@@ -119,7 +119,7 @@ impl<M: Memory, S: Scheme> Kept<M, S> {
         Ok((Kept::from(Phase::Resting(heap)), i64::from(live)))
     }
 
-    /// Gives a list of calls to a resting heap. Answers how many it gave.
+    /// Gives calls to a resting heap, one after another. Answers how many it gave.
     pub fn give(self, calls: &[CallWords], answers: &mut [Answer]) -> Turned<M, S>
         ensures in_turn { IsOk result ↔ (self.aside.phase ≡ 0) }
         ensures does { Does (λ m ws a vs b n. Listed m calls.now answers.old answers.new ws a vs b n) M.Memory.words S.Scheme.meaning self result }

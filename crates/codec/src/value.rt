@@ -51,14 +51,14 @@ pub fn place_of(word: u32) -> u32
     word / 4
 }
 
-/// The word that refers to the record at a place. No heap has places of 2^30 and more.
+/// The reference to a record, by its place. No heap has places of 2^30 and more.
 pub fn to_record(place: u32) -> u32
     ensures { place < 1_073_741_824 → result ≡ place * 4 + 2 }
 {
     place.wrapping_mul(4).wrapping_add(2)
 }
 
-/// The word that refers to the class at a place.
+/// The reference to a class, by its place.
 pub fn to_class(place: u32) -> u32
     ensures { place < 1_073_741_824 → result ≡ place * 4 + 3 }
 {

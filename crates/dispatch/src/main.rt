@@ -61,7 +61,7 @@ fn make_building<M: Memory, S: Scheme>(heap: &mut Heap<M, S>) -> Result<(), Refu
     heap.record(CAR, CAR_LAYOUT)?;
     heap.num(NOTE, -2)?;
     heap.save(CAR, FLOOR, NOTE)?;
-    // A raw word that looks like a reference is not taken for one.
+    // The bits of a reference, but raw: nothing follows them.
     heap.rawsave(CAR, SENSOR, 2)?;
     heap.record(LANDING, LANDING_LAYOUT)?;
     heap.rawsave(LANDING, LAMP, 1)?;

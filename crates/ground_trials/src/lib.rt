@@ -218,7 +218,7 @@ mod tests {
         );
     }
 
-    // The rules at their edges: whether admitted, whether fields 0, 30, 31 and 32 are raw, and how many of 0, 31, 32 and 33 fields are.
+    // The rules at their edges: whether each is admitted, which of the fields 0, 30, 31 and 32 are raw, and the counts for 0, 31, 32 and 33.
     fn asked<S: Scheme>(scheme: &S, rule: u32) -> (bool, [bool; 4], [u32; 4]) {
         (
             scheme.admits(rule),

@@ -306,7 +306,7 @@ pub raw_word : (ref : ℕ → ℕ) (x : Cell) → raw_cell x ≡ true → field_
 raw_word ref (raw w) e = refl
 raw_word ref (value u) e = absurd (false≢true e)
 
--- a class is a layout or a map
+-- the two kinds of a class
 class-kind : (o : Object) → is_record o ≡ false → (object_kind o ≡ 3) ⊎ (object_kind o ≡ 4)
 class-kind (a_record l cells) e = absurd (false≢true (sym e))
 class-kind (a_layout c n) e = inl refl

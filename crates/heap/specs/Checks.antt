@@ -1,4 +1,4 @@
--- Conditions that stop a call, as code finds them.
+-- The conditions of refusals, as code finds them.
 use Rattle.std.specs.Prelude.{◌≡◌, ℕ, Bool, true, false, cond, not, ◌||◌, List, [], ◌∷◌, length, pos, IfOk, Ok, Err, Result, ◌==◌, nat_le, nat_lt, slice_index_or}
 use Rattle.graph.specs.declared.Refusal.TheVariants.{OtherKind, NoField, OtherField}
 use Rattle.graph.specs.declared.Refusal.{Refusal}
@@ -46,7 +46,7 @@ is_kind g v k at = not (kind_of g v == k) refuses OtherKind at
 abbrev pub has_field : Graph → Value → ℕ → ℕ → Check
 has_field g v i at = nat_le (length (cells_of (object_of g v))) i refuses NoField at
 
--- field i is raw, or a value
+-- field i is of the sort that is wanted: raw bits, or a value
 abbrev pub is_sort : Graph → Value → ℕ → Bool → ℕ → Check
 is_sort g v i sort at = let found = raw_cell (slice_index_or (cells_of (object_of g v)) i (raw 0)) in cond sort (not found) found refuses OtherField at
 

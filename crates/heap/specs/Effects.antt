@@ -36,7 +36,7 @@ part_offset (suc zero) = 2
 part_offset (suc (suc zero)) = 2
 part_offset (suc (suc (suc k))) = 3
 
--- The heap with another word in a handle, or in the memory, or with a new object innermost on its side that a handle names.
+-- The heap with another word in a handle, or in the memory, or with one more object beside the gap, to which a handle refers.
 
 abbrev pub with_handle : View → ℕ → ℕ → View
 with_handle v d w = parts v.words (slice_set v.handles d w) v.low v.high v.limit
@@ -65,7 +65,7 @@ pub data Effect : Type 0 where
   -- the heap is packed
   packs : Effect
 
--- how many words a new record of the layout takes to which a handle refers; a layout has at most 32 fields
+-- how many words a record takes whose layout a handle refers to; a layout has at most 32 fields
 abbrev pub record_words : View → ℕ → ℕ
 record_words v l = 2 + min (slice_index v.words (place_in v l + 1)) 32
 

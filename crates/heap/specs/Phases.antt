@@ -25,19 +25,19 @@ pub record DrawnAs (m : Meaning) (v : View) (live : ℕ) (g : Graph) (s : List B
   pub limited : v.limit ≡ min (length v.words) 16384
   pub live_is : live ≡ live_words g
 
--- begin sets marks and alters no other bit
+-- what begin leaves: a begun heap, whose sides end where they did
 pub record Begins (m : Meaning) (before after : View) (live : ℕ) : Type 0 where
   pub begun : (g : Graph) (s : List Bool) → Stands m before g s → BegunAs m after live g s (drop before.limit before.words)
   pub low : after.low ≡ before.low
   pub high : after.high ≡ before.high
   pub limit : after.limit ≡ before.limit
 
--- draw is the forward update
+-- what draw leaves: each reference has its object's new place, or stands in the list at its object's header
 pub record Draws (m : Meaning) (before after : View) : Type 0 where
   pub drawn : (g : Graph) (s : List Bool) (live : ℕ) (rest : List ℕ) → BegunAs m before live g s rest → DrawnAs m after live g s rest
   pub limit : after.limit ≡ before.limit
 
--- close is the backward update: the reachable objects alone stand, packed
+-- what close leaves: a heap at rest in which the reachable objects alone stand, packed
 pub record Closes (m : Meaning) (before after : View) : Type 0 where
   pub closed :
       (g : Graph) (s : List Bool) (live : ℕ) (rest : List ℕ) → DrawnAs m before live g s rest →

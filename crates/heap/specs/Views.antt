@@ -41,7 +41,7 @@ pub record Meets {M S : Type 0} (words : M → List ℕ) (meaning : S → Meanin
   pub alters : Alters (effect c (view words before)) (view words before) out (view words after)
   pub scheme : after.scheme ≡ before.scheme
 
--- a collection: the graph stays, the reachable objects alone stand, and the live words are told
+-- a collection: of the graph nothing changes, what stands is what can be reached, and the answer is the number of live words
 pub record Packed (m : Meaning) (before : View) (g : Graph) (after : View) (live : ℕ) : Type 0 where
   pub told : live ≡ live_words g
   pub stands : Stands m after g (reachable g)
@@ -51,7 +51,7 @@ pub record Packs (m : Meaning) (before after : View) (live : ℕ) : Type 0 where
   pub packed : (g : Graph) (s : List Bool) → Stands m before g s → Packed m before g after live
   pub limit : after.limit ≡ before.limit
 
--- the live words are told, and all stays as it is
+-- the answer is the number of live words, and no word changes
 pub record Tells (m : Meaning) (before after : View) (live : ℕ) : Type 0 where
   pub told : (g : Graph) (s : List Bool) → Stands m before g s → live ≡ live_words g
   pub same : (g : Graph) (s : List Bool) → Stands m before g s → after ≡ before

@@ -29,7 +29,7 @@ pub(crate) fn check_handle(h: u32, at: u8) -> Result<(), Refusal>
     hold(h < 32, Refusal::NoHandle(at))
 }
 
-/// A number is in the range of value words.
+/// A number is one that 30 bits with sign can hold.
 pub(crate) fn check_number(n: i32, at: u8) -> Result<(), Refusal>
     ensures { Sifts (value_number n at ∷ []) (λ _. in_range n ≡ true) result }
 {
@@ -168,7 +168,7 @@ impl<M: Memory, S: Scheme> Heap<M, S> {
         Ok(2 + self.word_in(word, 1).min(32))
     }
 
-    /// The value of a word is an object; then the field count of a record or layout, or the rule of a map.
+    /// The value of a word is an object; then how many fields it has or gives, or which rule it has.
     pub(crate) fn figure_of(&self, word: u32, at: u8) -> Result<u32, Refusal>
         ensures { OfValue (S.Scheme.meaning self.now.scheme) (view M.Memory.words self.now) word (λ g v. Sifts (is_object g v at ∷ []) (λ n. n ≡ figure_of (object_of g v)) result) }
     {

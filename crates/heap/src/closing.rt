@@ -8,14 +8,14 @@ use memory::Memory;
 use scheme::Scheme;
 
 impl<M: Memory, S: Scheme> Drawn<M, S> {
-    /// The still graph's live words.
+    /// The live words, as the graph has them.
     pub fn live_words(&self) -> u32
         ensures { result ≡ self.now.live }
     {
         self.live
     }
 
-    /// The backward update: the heap rests again, packed. Answers the live words.
+    /// Updates the references backward and slides the objects: the heap rests again, packed. Tells the live words.
     pub fn close(self) -> (Heap<M, S>, u32)
         ensures closes { Closes (S.Scheme.meaning self.heap.scheme) (view M.Memory.words self.heap) (view M.Memory.words result.0) }
         ensures live { result.1 ≡ self.live }

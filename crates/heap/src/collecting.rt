@@ -54,7 +54,7 @@ impl<M: Memory, S: Scheme> Heap<M, S> {
         live
     }
 
-    /// Tells the live words, and leaves everything as it was.
+    /// Tells the live words by a marking that is undone.
     pub(crate) fn weigh(&mut self) -> u32
         ensures tells { Tells (S.Scheme.meaning self.old.scheme) (view M.Memory.words self.old) (view M.Memory.words self.new) result }
         ensures bounds { self.new.bounds ≡ self.old.bounds }
@@ -65,14 +65,14 @@ impl<M: Memory, S: Scheme> Heap<M, S> {
         live
     }
 
-    /// Packs the reachable objects, and answers the live words.
+    /// Collects: what can be reached is packed, the rest is gone. Tells the live words.
     pub fn collect(&mut self) -> u32
         ensures { Meets M.Memory.words S.Scheme.meaning Collect self.old self.new (Ok (pos result)) }
     {
         self.pack()
     }
 
-    /// Answers the live words in a hundred of the heap's, to the nearest whole, a half upward; 0 if the heap has none.
+    /// How full the heap is: its live words in a hundred of all, rounded. Of no words it is 0.
     pub fn fill(&mut self) -> u32
         ensures { Meets M.Memory.words S.Scheme.meaning Fill self.old self.new (Ok (pos result)) }
     {
@@ -81,7 +81,7 @@ impl<M: Memory, S: Scheme> Heap<M, S> {
     }
 }
 
-/// So many of the words in a hundred, to the nearest whole, a half upward; 0 if there are none. No heap has more than 16,384.
+/// So many of the words in a hundred, rounded, with a half counted up; of no words 0. No heap has more than 16,384.
 fn percent(live: u32, words: u32) -> u32
     ensures { live ≤ 16384 → words ≤ 16384 → result ≡ percent live words }
 {

@@ -8,14 +8,14 @@ use memory::Memory;
 use scheme::Scheme;
 
 impl<M: Memory, S: Scheme> Begun<M, S> {
-    /// The still graph's live words.
+    /// The live words, as the graph has them.
     pub fn live_words(&self) -> u32
         ensures { result ≡ self.now.live }
     {
         self.live
     }
 
-    /// The forward update.
+    /// Updates the references forward: each then has its object's new place, or stands in the list at its object's header.
     pub fn draw(self) -> Drawn<M, S>
         ensures draws { Draws (S.Scheme.meaning self.heap.scheme) (view M.Memory.words self.heap) (view M.Memory.words result.heap) }
         ensures live { result.live ≡ self.live }
@@ -26,7 +26,7 @@ impl<M: Memory, S: Scheme> Begun<M, S> {
         Drawn { heap, live }
     }
 
-    /// Gives the collection up: the marks are cleared, and the heap is as it was.
+    /// Gives the collection up: without its marks the heap is what it was before begin.
     pub fn give_up(self) -> Heap<M, S>
         ensures rests { GivesUp (S.Scheme.meaning self.heap.scheme) (view M.Memory.words self.heap) (view M.Memory.words result) }
         ensures scheme { result.scheme ≡ self.heap.scheme }
@@ -36,7 +36,7 @@ impl<M: Memory, S: Scheme> Begun<M, S> {
         heap
     }
 
-    /// The memory's word at the place, with the mark in a header that has one; 0 past the memory's end.
+    /// The word that the memory has at the place, with the mark in a header that has one; 0 where it has none.
     pub fn word(&self, place: u32) -> u32
         ensures { result ≡ slice_index (M.Memory.words self.now.heap.space.memory) place }
     {

@@ -10,7 +10,7 @@ use memory::Memory;
 use scheme::Scheme;
 
 impl<M: Memory, S: Scheme> Heap<M, S> {
-    /// The target takes a value field of the record.
+    /// The target takes the value in a field of the record.
     pub fn load(&mut self, target: u32, owner: u32, field: u32) -> Result<(), Refusal>
         ensures { Meets M.Memory.words S.Scheme.meaning (Load target owner field) self.old self.new (outcome_of nothing result) }
     {
@@ -21,7 +21,7 @@ impl<M: Memory, S: Scheme> Heap<M, S> {
         Ok(())
     }
 
-    /// A value field of the record takes the value of the source.
+    /// A field of the record takes the value in the source.
     pub fn save(&mut self, owner: u32, field: u32, source: u32) -> Result<(), Refusal>
         ensures { Meets M.Memory.words S.Scheme.meaning (Save owner field source) self.old self.new (outcome_of nothing result) }
     {
@@ -34,7 +34,7 @@ impl<M: Memory, S: Scheme> Heap<M, S> {
         Ok(())
     }
 
-    /// Answers a raw field.
+    /// The word in a raw field.
     pub fn rawload(&self, owner: u32, field: u32) -> Result<u32, Refusal>
         ensures { Meets M.Memory.words S.Scheme.meaning (RawLoad owner field) self.now self.now (outcome_of pos result) }
     {
@@ -43,7 +43,7 @@ impl<M: Memory, S: Scheme> Heap<M, S> {
         Ok(self.space.memory.read(place))
     }
 
-    /// A raw field becomes the word.
+    /// Puts the word into a raw field.
     pub fn rawsave(&mut self, owner: u32, field: u32, raw: u32) -> Result<(), Refusal>
         ensures { Meets M.Memory.words S.Scheme.meaning (RawSave owner field raw) self.old self.new (outcome_of nothing result) }
     {

@@ -41,7 +41,7 @@ impl<M: Memory, S: Scheme> Heap<M, S> {
         Ok(())
     }
 
-    /// Answers what the handle holds.
+    /// What the handle holds.
     pub fn kind(&self, handle: u32) -> Result<Kind, Refusal>
         ensures { Meets M.Memory.words S.Scheme.meaning (KindOf handle) self.now self.now (outcome_of (λ k. pos (kind_number k)) result) }
     {
@@ -49,7 +49,7 @@ impl<M: Memory, S: Scheme> Heap<M, S> {
         Ok(self.kind_of(self.space.handles[handle as usize]))
     }
 
-    /// Answers the number in the handle.
+    /// The number in the handle.
     pub fn value(&self, handle: u32) -> Result<i32, Refusal>
         ensures { Meets M.Memory.words S.Scheme.meaning (ValueOf handle) self.now self.now (outcome_of (λ n. n) result) }
     {
@@ -59,7 +59,7 @@ impl<M: Memory, S: Scheme> Heap<M, S> {
         Ok(value::decode(word))
     }
 
-    /// Answers whether both are empty, equal numbers or one object.
+    /// Whether two handles hold the same number, the same object, or nothing both.
     pub fn same(&self, first: u32, second: u32) -> Result<bool, Refusal>
         ensures { Meets M.Memory.words S.Scheme.meaning (Same first second) self.now self.now (outcome_of truth result) }
     {

@@ -1,4 +1,4 @@
-// The calls that make objects, each innermost on its side.
+// The calls that make objects, each next to the gap between the sides.
 ghost use Rattle.std.specs.Prelude.{◌≡◌, ℕ, ◌+◌, ◌-◌, ◌*◌, ◌<◌, ◌≤◌, length, ℤ, pos};
 ghost use Rattle.graph.specs.declared.Call.TheVariants.{Map, Layout, Record};
 ghost use Rattle.graph.specs.Words.{put};
@@ -56,7 +56,7 @@ impl<M: Memory, S: Scheme> Heap<M, S> {
         }
     }
 
-    /// Puts a new object of these words innermost on its side, and gives the reference to it.
+    /// Puts an object of these words next to the gap, on its side, and gives the reference to it.
     fn put_innermost<T: Side>(&mut self, words: &[u32]) -> u32
         requires { length words.now ≤ 34 }
         ensures memory { M.Memory.words self.new.space.memory ≡ put (M.Memory.words self.old.space.memory) (innermost T.Side.upward self.old.bounds (length words.now)) words.now }
@@ -70,7 +70,7 @@ impl<M: Memory, S: Scheme> Heap<M, S> {
         T::reference(place)
     }
 
-    /// The target gets a new map, with the values of two handles as its name and parent.
+    /// Makes a map, whose name and parent are the values of two handles; the target refers to it.
     pub fn map(&mut self, target: u32, rule: u32, name: u32, parent: u32) -> Result<(), Refusal>
         ensures { Meets M.Memory.words S.Scheme.meaning (Map target rule name parent) self.old self.new (outcome_of nothing result) }
     {
@@ -92,7 +92,7 @@ impl<M: Memory, S: Scheme> Heap<M, S> {
         Ok(())
     }
 
-    /// The target gets a new layout of so many fields, with the map in a handle.
+    /// Makes a layout under the map that a handle holds, for records of so many fields; the target refers to it.
     pub fn layout(&mut self, target: u32, fields: u32, map: u32) -> Result<(), Refusal>
         ensures { Meets M.Memory.words S.Scheme.meaning (Layout target fields map) self.old self.new (outcome_of nothing result) }
     {
@@ -112,7 +112,7 @@ impl<M: Memory, S: Scheme> Heap<M, S> {
         Ok(())
     }
 
-    /// The target gets a new record of the layout in a handle: raw fields 0, the others empty.
+    /// Makes a record of the layout that a handle holds, with nothing in it yet; the target refers to it.
     pub fn record(&mut self, target: u32, layout: u32) -> Result<(), Refusal>
         ensures { Meets M.Memory.words S.Scheme.meaning (Record target layout) self.old self.new (outcome_of nothing result) }
     {

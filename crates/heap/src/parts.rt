@@ -10,7 +10,7 @@ use memory::Memory;
 use scheme::Scheme;
 
 impl<M: Memory, S: Scheme> Heap<M, S> {
-    /// The target takes part 0, the record's layout, 1, the layout's map, 2, the map's name, or 3, its parent.
+    /// The target takes a part of the object: with 0 the layout of a record, with 1 the map of a layout, with 2 a map's name, with 3 its parent.
     pub fn part(&mut self, target: u32, owner: u32, part: u32) -> Result<(), Refusal>
         ensures { Meets M.Memory.words S.Scheme.meaning (Part target owner part) self.old self.new (outcome_of nothing result) }
     {
@@ -23,7 +23,7 @@ impl<M: Memory, S: Scheme> Heap<M, S> {
         Ok(())
     }
 
-    /// Answers the field count of a record or layout, the rule of a map.
+    /// How many fields a record or a layout has, or which rule a map.
     pub fn figure(&self, handle: u32) -> Result<u32, Refusal>
         ensures { Meets M.Memory.words S.Scheme.meaning (Figure handle) self.now self.now (outcome_of pos result) }
     {
@@ -32,7 +32,7 @@ impl<M: Memory, S: Scheme> Heap<M, S> {
         Ok(figure)
     }
 
-    /// Answers how many fields of the layout are raw.
+    /// The number of raw fields that a layout gives its records.
     pub fn raws(&self, handle: u32) -> Result<u32, Refusal>
         ensures { Meets M.Memory.words S.Scheme.meaning (Raws handle) self.now self.now (outcome_of pos result) }
     {

@@ -6,14 +6,14 @@ use memory::Memory;
 use scheme::Scheme;
 
 impl<M: Memory, S: Scheme> Heap<M, S> {
-    /// The memory's word at the place, and 0 past the memory's end.
+    /// The word that the memory has at the place, or 0 where it has none.
     pub fn word(&self, place: u32) -> u32
         ensures { result ≡ slice_index (M.Memory.words self.now.space.memory) place }
     {
         self.space.memory.read(place as usize)
     }
 
-    /// The word of the handle, and 0 where there is no such handle.
+    /// The word of the handle, or 0 where there is no such handle.
     pub fn handle_word(&self, handle: u32) -> u32
         ensures { result ≡ slice_index self.now.space.handles handle }
     {
@@ -21,7 +21,7 @@ impl<M: Memory, S: Scheme> Heap<M, S> {
     }
 }
 
-/// The word at the place, and 0 past the end.
+/// The word that stands at the place, or 0 where there is none.
 fn word_at(words: &[u32], place: u32) -> u32
     ensures { result ≡ slice_index words.now place }
 {

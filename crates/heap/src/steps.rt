@@ -9,7 +9,7 @@ use memory::Memory;
 use scheme::Scheme;
 
 impl<M: Memory, S: Scheme> Heap<M, S> {
-    /// Begins a collection: marks exactly the reachable objects and alters no other bit.
+    /// Begins a collection: each object that can be reached gets its mark, and that is all.
     pub fn begin(mut self) -> Begun<M, S>
         ensures begins { Begins (S.Scheme.meaning self.scheme) (view M.Memory.words self) (view M.Memory.words result.heap) result.live }
         ensures scheme { result.heap.scheme ≡ self.scheme }
@@ -18,14 +18,14 @@ impl<M: Memory, S: Scheme> Heap<M, S> {
         Begun { heap: self, live }
     }
 
-    /// A whole collection by its steps, which counts as one collect; with the live words.
+    /// A whole collection by its steps, the same as `collect`; with the live words.
     pub fn collect_by_steps(self) -> (Self, u32)
         ensures { Meets M.Memory.words S.Scheme.meaning Stepped self result.0 (Ok (pos result.1)) }
     {
         self.begin().draw().close()
     }
 
-    /// A collection that is begun and given up, which counts as none.
+    /// A collection that is begun and given up: nothing comes of it.
     pub fn collect_given_up(self) -> Self
         ensures { Meets M.Memory.words S.Scheme.meaning GivenUp self result (Ok (pos 0)) }
     {

@@ -10,7 +10,7 @@ abbrev pub grown : ℕ → List (List ℕ) → List (List ℕ)
 grown x [] = (x ∷ []) ∷ []
 grown x (p ∷ ps) = (x ∷ p) ∷ ps
 
--- byte 10 ends a line, and the last line may lack it
+-- a text is cut at each byte 10; one that ends with it has no line behind
 abbrev pub lines : List ℕ → List (List ℕ)
 lines [] = []
 lines (x ∷ xs) = cond (x == 10) ([] ∷ lines xs) (grown x (lines xs))

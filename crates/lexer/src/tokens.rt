@@ -7,7 +7,7 @@ ghost use Rattle.faults.specs.declared.TextFault.TheVariants.{NoShape};
 use crate::lines::split_once;
 use faults::TextFault;
 
-/// A value of a line, as it was read.
+/// A value of a line, told by its first byte, with the bytes of the line that it was read from.
 #[derive(Clone, Copy, PartialEq, Eq, Debug)]
 pub enum Token<'a> {
     Word(&'a [u8]),

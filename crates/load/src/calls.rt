@@ -53,7 +53,7 @@ impl<'a> Arguments<'a> {
     }
 }
 
-/// The call of a word and its arguments, which fill a to d from the left.
+/// The call of a word, with the values of as many columns as it has arguments, a first.
 // An arm for each word: each call names its own fields.
 pub fn call_of(word: Word, arguments: Arguments<'_>) -> Result<Call, TextFault>
     ensures { result ≡ call word (said arguments.entry.a) (said arguments.entry.b) (said arguments.entry.c) (said arguments.entry.d) }

@@ -46,7 +46,7 @@ fn places_of(tokens: Tokens<'_>) -> Result<Columns, TextFault>
     Ok(Columns { call, a, b, c, d })
 }
 
-/// The columns, where the line is the five names, each once, in any order. A line over 80 bytes is not.
+/// The columns, where each of the five names stands once on the line and nothing else does. No line is longer than 80 bytes.
 #[tactic(auto, using(crate::proofs::Titles::columns_ok, crate::proofs::Titles::columns_not, crate::proofs::Titles::told_by))]
 pub fn columns_of(line: &[u8]) -> Result<Columns, TextFault>
     ensures value { result ≡ columns_in line.now }

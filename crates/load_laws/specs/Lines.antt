@@ -1,4 +1,4 @@
--- What a line of a load gives, in the words of the rules.
+-- What a line of a load gives, by its columns and not by the order of the reading.
 use Rattle.std.specs.Prelude.{◌≡◌, ℕ, ◌^◌, ◌<◌, ◌≤◌, true, cond, ◌⊎◌, List, [], ◌∷◌, length, ℤ, pos, neg_ℤ, Ok, Err, codes, ◌==◌, ◌≢◌, slice_index_or}
 use Rattle.std.specs.List.Sorted.{IsPermutation}
 use Rattle.std.specs.Str.{all_ascii_digits}
@@ -25,7 +25,7 @@ pub data Use : Type 0 where
   -- the call does not use it
   nothing : Use
 
--- arguments fill a to d from the left
+-- the columns that a call uses come before those that it does not
 abbrev pub none_used : Argument → Use
 none_used A = nothing
 none_used B = nothing
@@ -56,7 +56,7 @@ four_used B = plain_number
 four_used C = plain_number
 four_used D = plain_number
 
--- n of num is the one that may carry a minus
+-- `num` alone takes a number below 0, as its second argument
 abbrev pub num_used : Argument → Use
 num_used A = plain_number
 num_used B = whole_number
@@ -87,7 +87,7 @@ use_of words.Fill = none_used
 abbrev pub Numeral : List ℕ → Type 0
 Numeral v = (1 ≤ length v) × (length v ≤ 10) × (all_ascii_digits v ≡ true)
 
--- a column takes a value
+-- a value does for a column
 abbrev pub Takes : Use → List ℕ → Type 0
 Takes plain_number v = Numeral v × (read_on 0 v < 2 ^ 32)
 Takes whole_number v = (Numeral v × (read_on 0 v < 2 ^ 31)) ⊎ ((ds : List ℕ) × (v ≡ 45 ∷ ds) × Numeral ds × (read_on 0 ds ≤ 2 ^ 31))

@@ -1,4 +1,4 @@
-// Laws of the lines of a load, in the words of its rules.
+// Laws of the lines of a load: what each gives, said of its columns.
 #![tactic(auto)]
 
 ghost use Rattle.load_laws.specs.Lines.{GivesCallExactly, FaultsInOrder, FirstColumnNamed, AnyOrderOfNames};

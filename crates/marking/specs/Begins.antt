@@ -1,4 +1,4 @@
--- The begin of a collection, and its giving up, in the words of the still graph.
+-- What begins a collection, and what gives one up, said of the graph and not of its marks.
 use Rattle.std.specs.Prelude.{◌≡◌, ℕ, ◌≤◌, Bool, List, drop}
 use Rattle.scheme.specs.Meaning.{Meaning}
 use Rattle.graph.specs.Graph.{Graph}
@@ -7,7 +7,7 @@ use Rattle.graph.specs.Words.{low_end, high_end}
 use Rattle.graph.specs.Rests.{Rests}
 use Rattle.space.specs.Layout.{Begun}
 
--- exactly the reachable objects are marked, all else is as it was, and the live words are told
+-- the marks are on what can be reached and on nothing else, no other bit has changed, and the number of live words is told
 pub record BeginsWith (m : Meaning) (W : ℕ) (g : Graph) (s : List Bool) (ws hs vs gs : List ℕ) (low high words : ℕ) : Type 0 where
   pub begun : Begun m W g s (reachable g) (drop W ws) vs gs low high
   pub handles : gs ≡ hs

@@ -80,7 +80,7 @@ impl Walk {
     }
 }
 
-/// For each object whether a handle names it, or a reachable object does.
+/// For each object whether it can be reached: from a handle, or from another that can.
 pub fn reachable(
     heap: Global,
     handles: &[Value; 32],

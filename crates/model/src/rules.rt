@@ -27,7 +27,7 @@ impl Rules {
         }
     }
 
-    /// How many of the first fields are raw: asked one by one.
+    /// The number of raw fields below a number: asked one by one.
     pub fn raws(self, rule: u32, fields: u32) -> u32 {
         word_of(
             (0..fields)

@@ -418,14 +418,14 @@ impl Still {
         Ok(i64::from(self.live_words()?))
     }
 
-    /// The live words in a hundred of all, to the nearest whole; a half goes upward.
+    /// How full the heap is: the live words in a hundred of all, rounded, with a half counted up.
     fn fill(&self) -> Result<i64, Stop> {
         let live = self.live_words()?;
         let parts = live.saturating_mul(100).saturating_add(self.words / 2);
         Ok(i64::from(parts.checked_div(self.words).unwrap_or(0)))
     }
 
-    /// The sizes of all reachable objects, added.
+    /// How many words the objects take that can be reached.
     pub fn live_words(&self) -> Result<u32, AllocError> {
         let reachable = reachable(self.heap, &self.handles, &self.objects)?;
         Ok(

@@ -25,7 +25,7 @@ pub struct Pairs {
     pub bytes_under_mask: Vec<Outcome>,
 }
 
-/// The answers of a list of calls to a new heap, which is then taken apart. Over any memory of 32 words, under either scheme, the stored
+/// What calls to a new heap are answered, one after another; then the heap is taken apart. Over any memory of 32 words, under either scheme, the stored
 /// calls are answered what was stored.
 pub fn answers<M: Memory + Drop, S: Scheme + Drop>(
     memory: M,
@@ -42,7 +42,7 @@ pub fn answers<M: Memory + Drop, S: Scheme + Drop>(
     Ok(answers)
 }
 
-/// Numbers at zero and both ends, raw words that look like references, a record that names itself, and its layout and map, stored and read
+/// The least number, the largest and 0, raw words with the bits of references, a record that names itself, and its layout and map, stored and read
 /// back behind a collection at once, one by steps and one given up.
 pub fn stored_calls() -> [Call; 33]
     ensures { result ≡ stored }

@@ -56,7 +56,7 @@ module _ {S : Type 0} (take : Call → S → Outcome × S) where
   told s (Ok c) ls = runs s c 2 ls
   told s (Err e) ls = reported e.line (Err e) ∷ []
 
--- the reports of an input over a new heap of W words
+-- what an input tells, line by line, from an empty heap of W words on
 abbrev pub loaded : Meaning → ℕ → List ℕ → List Report
 loaded m W input = told (step m W) bare (heading input) (behind (lines input))
 

@@ -16,7 +16,7 @@ abbrev pub reported : ℕ → Result ℤ LineFault → Report
 reported n (Ok answer) = record { line = n; outcome = Ok answer }
 reported n (Err e) = record { line = e.line; outcome = Err (stop_of e.fault) }
 
--- how an outcome is told: its state, its number, and its position, 0 if there is none
+-- how an outcome is told: whether the call was granted, the number, and which value is to blame, 0 for none
 abbrev pub state : Result ℤ Stop → List ℕ
 state (Ok answer) = codes "ok"
 state (Err e) = codes "no"
@@ -34,7 +34,7 @@ abbrev pub shown_report : Report → List ℕ
 shown_report x =
     decimal x.line ++ (codes " " ++ (state x.outcome ++ (codes " " ++ (signed_decimal (number x.outcome) ++ (codes " " ++ decimal (position x.outcome))))))
 
--- every line ends with byte 10
+-- a line and byte 10 behind it, for each report
 abbrev pub written : List Report → List ℕ
 written [] = []
 written (r ∷ rs) = shown_report r ++ (10 ∷ written rs)

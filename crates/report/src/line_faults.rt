@@ -26,7 +26,7 @@ impl CallFault {
         }
     }
 
-    /// The position of the value that did not do, 1 to 4 for a to d; 0 if there is none.
+    /// Which value is to blame, 1 to 4 for a to d, or 0 for none.
     pub fn position(self) -> u8
         ensures { result ≡ fault_position self }
     {

@@ -26,7 +26,7 @@ fn check_length(input: &[u8]) -> Result<(), CallFault>
     Ok(())
 }
 
-/// Reads the name line. An input that is too long has a fault on line 0; one without the five names, the empty input too, on line 1. After either a load stops.
+/// Reads the name line. An input that is too long has a fault on line 0; one without the five names, the empty input too, on line 1. No later line is read then.
 pub fn open_load<'a>(input: &'a [u8]) -> Result<Opened<'a>, LineFault>
     ensures value { columns_of result ≡ heading input.now }
     ensures rest { IfOk result (λ o. (lines o.rest.now ≡ behind (lines input.now)) × (length o.rest.now < 65536)) }

@@ -7,7 +7,7 @@ use crate::line_faults::{CallFault, LineFault};
 use std::alloc::{AllocError, Global};
 use std::fmt;
 
-/// What stopped a line: the number of the fault, and the position of the value that did not do, 0 if there is none.
+/// What stopped a line: the number of the fault, and which value is to blame, 0 for none.
 #[derive(Clone, Copy, PartialEq, Eq, Debug)]
 pub struct Stop {
     // Numbers as printed: any that a line can show is held, and read back.
@@ -62,7 +62,7 @@ impl fmt::Display for Report {
     }
 }
 
-/// The whole output: the names of its columns, then a line for each report. Every line ends with a newline.
+/// The whole output: the names of its columns, then the reports, each closed by a newline.
 pub fn output_of(heap: Global, reports: &[Report]) -> Result<String, AllocError>
     ensures { IfOk result (λ s. string_bytes s ≡ output reports.now) }
 {

@@ -12,7 +12,7 @@ use Rattle.report.specs.Loads.{answered, runs}
 use Rattle.heap.specs.Effects.{View}
 use Rattle.heap.specs.Views.{Stands}
 
--- a heap uses the first words of a memory, at most 16,384
+-- how many words of a memory are a heap's: all, or 16,384 where there are more
 abbrev pub heap_words : List ℕ → ℕ
 heap_words memory = min (length memory) 16384
 

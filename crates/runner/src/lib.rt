@@ -89,7 +89,7 @@ pub fn run_load<M: Memory + Drop, S: Scheme + Drop>(
     Ok(reports)
 }
 
-/// The whole output for an input, over a new heap of 64 words with PREFIX.
+/// The whole output for an input, from an empty heap of 64 words on, by the scheme PREFIX.
 pub fn answer_load(input: &[u8], alloc: Global) -> Result<String, AllocError>
     ensures { IfOk result (λ s. string_bytes s ≡ output (loaded prefix 64 input.now)) }
 {

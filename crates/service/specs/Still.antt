@@ -10,7 +10,7 @@ use Rattle.graph.specs.Runs.{packs, others, to_others}
 use Rattle.heap.specs.Effects.{View}
 use Rattle.heap.specs.Views.{Stands}
 
--- a heap uses the first W words of a memory
+-- how many words of a memory are a heap's: all, or 16,384 where there are more
 abbrev pub heap_words : List ℕ → ℕ
 heap_words memory = min (length memory) 16384
 
@@ -32,7 +32,7 @@ pub record ServedAs (m : Meaning) (memory : List ℕ) (calls : List Call) (answe
   pub answered : answers ≡ answers_of m memory calls
   -- the heap has the first W words
   pub limit : heap.limit ≡ heap_words memory
-  -- every word of the memory and of the handles is that of the still graph and of what stands
+  -- no word, of the memory or of a handle, is other than that of the still graph and of what stands
   pub stands : Stands m heap (graph_of m memory calls) (state_of m memory calls).standing
   -- later words are as they were
   pub later : drop (heap_words memory) heap.words ≡ drop (heap_words memory) memory

@@ -17,8 +17,8 @@ pub struct Served<M: Memory, S: Scheme> {
     pub heap: Heap<M, S>,
 }
 
-/// Gives a list of calls to a new heap over the memory. No list can tell the heap from the still graph, in which nothing ever moves:
-/// the answers and refusals are the still graph's; every word after the list is the one that the rules define, and after a collection the
+/// Gives calls to a new heap over the memory, one after another. No list of them can tell the heap from the still graph, in which nothing ever moves:
+/// the answers and refusals are the still graph's; each word after the list is the one that the still graph gives it, and after a collection the
 /// packed words alone stand; and a list that differs only in its collections, at once, by steps or given up, has the same answers to all
 /// its other calls. Fails only where there is no memory for the answers, before a heap is made.
 pub fn serve<M: Memory + Drop, S: Scheme + Drop>(

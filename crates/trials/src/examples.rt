@@ -1,4 +1,4 @@
-// The examples of docs/HEAP.md: the answers, and some of the words, that the rules give for them.
+// The examples of docs/HEAP.md: the answers, and some of the words, that stand there.
 use crate::answered::Answered;
 use crate::beside::Beside;
 use crate::schemes::Modelled;
