@@ -5,10 +5,13 @@
  *
  * Rules of use
  * - The caller owns the words and the state. Both stay where they are put and are altered by no one else while a heap is in use, and
- *   they do not overlap. Every function is given the same words, of the same length, that `fusuma_new` was given.
- * - A heap uses the first 16,384 of the words at the most. It never touches those behind them.
- * - The state is the heap's own: make it by `fusuma_new`, which may be called in any phase and forgets what was there, and alter nothing in it. (A state that was altered makes no function read or
- *   write outside the words and the state; what the calls then answer is not said.)
+ *   they do not overlap. Every function is given the same words, of the same length, that `fusuma_new` was given. A length may be 0, that
+ *   of a list of calls or of answers too, and NULL may stand for what has length 0.
+ * - A heap uses the first 16,384 of the words at the most. Those behind are neither read nor written, as long as these functions alone wrote
+ *   the words and the state. Where anyone else altered one of them, a call may reach the words behind too, as a `load` or `save` through a
+ *   reference that leads there, and what it answers is not said; but no function reads or writes outside the words, the state and the
+ *   lists that it is given, and each returns.
+ * - The state is the heap's own: make it by `fusuma_new`, which may be called in any phase and forgets what was there, and alter nothing in it.
  * - A function that is called out of turn, an empty list of calls too, answers FUSUMA_OUT_OF_TURN and alters nothing: while a collection is begun
  *   or drawn only its next step may be taken.
  * - No function allocates, calls back or keeps anything of its own. Two heaps may be used side by side, by two threads too.
