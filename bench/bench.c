@@ -194,7 +194,7 @@ static void compare(const char *config, const char *who, size_t length, const ui
         differ(config, who, "the state", 0);
 }
 
-/* All collectors leave the words that the still graph has after a collection, or those of before. */
+/* A collector that packs leaves the words of the still graph, and one that gives up those of before. */
 static void check_heap(plan p, const heap *h)
 {
     static uint32_t words[MOST_WORDS], packed[MOST_WORDS];

@@ -76,7 +76,7 @@ static void start(builder *b, uint32_t small, uint32_t wide)
     b->live = 13;
 }
 
-/* A new record with a raw field that looks like a reference, and a number behind it. */
+/* A new record: its raw field has the bits of a reference, and behind it stands a number. */
 static void record(builder *b, uint32_t target, uint32_t layout)
 {
     call(b, FUSUMA_RECORD, target, layout, 0, 0);

@@ -1,4 +1,4 @@
-/* The still graph of docs/HEAP.md, in which nothing moves and nothing is thrown away, with the words that the rules give after each call: what
+/* The still graph of docs/HEAP.md, in which nothing moves and nothing is thrown away, with the words that it gives the memory after each call: what
  * every heap is tried against. */
 #ifndef STILL_H
 #define STILL_H
@@ -14,7 +14,7 @@ void still_give(still *graph, const call_form *call, answer_form *answer);
 
 uint32_t still_live(still *graph);
 
-/* 0 empty, 1 number, 2 record, 3 layout, 4 map: for those who choose calls. */
+/* What a handle holds, as the call `kind` numbers it: for those who choose calls. */
 uint32_t still_kind(const still *graph, uint32_t handle);
 
 /* Words and state at rest; as they are after begin; as they are after draw. The words are as many as the heap uses. */
