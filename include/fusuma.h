@@ -7,8 +7,8 @@
  * - The caller owns the words and the state. Both stay where they are put and are altered by no one else while a heap is in use, and
  *   they do not overlap. Every function is given the same words, of the same length, that `fusuma_new` was given. A length may be 0, that
  *   of a list of calls or of answers too, and NULL may stand for what has length 0.
- * - A heap uses the first 16,384 of the words at the most. Those behind are neither read nor written, as long as these functions alone wrote
- *   the words and the state. Where anyone else altered one of them, a call may reach the words behind too, as a `load` or `save` through a
+ * - A heap uses the first 16,384 of the words at the most. Those behind stay as they are, as long as these functions alone wrote the
+ *   words and the state. Where anyone else altered one of them, a call may reach the words behind too, as a `load` or `save` through a
  *   reference that leads there, and what it answers is not said; but no function reads or writes outside the words, the state and the
  *   lists that it is given, and each returns.
  * - The state is the heap's own: make it by `fusuma_new`, which may be called in any phase and forgets what was there, and alter nothing in it.
