@@ -160,7 +160,7 @@ module _ (m : Meaning) (v : View) (g : Graph) (s : List Bool) (st : Stands m v g
       let f = of-layout q w here k is in
       rule-at (map_of (object_at g q)) p (object_at g (map_of (object_at g q))) f.map_stands refl f.map_kind (e ∙ f.map_word)
 
-  -- the field count of a layout, from its word
+  -- a layout has as many fields as the word behind its header says
   pub layout-count : (x : Value) (w : ℕ) → Means v.limit g s w x → kind_of g x ≡ 3 → (get_or v.words (w / 4 + 1) 0 ≡ figure_of (object_of g x)) × (figure_of (object_of g x) ≤ 32)
   layout-count empty w is k = absurd (omega arith)
   layout-count (number n) w is k = absurd (omega arith)
@@ -289,7 +289,7 @@ module _ (m : Meaning) (v : View) (g : Graph) (s : List Bool) (st : Stands m v g
   class-figure (number n) w is ne l = absurd (omega arith)
   class-figure (object q) w is ne l = let p = figure-word (reference v.limit g s) (object_at g q) ne in read-object q w (object_at g q) is.fitting refl is.word_is 1 p.0 ∙ p.1
 
-  -- how many fields of a layout are raw
+  -- the number of raw fields that a layout gives its records
   pub raws-read : (x : Value) (w rule n : ℕ) → Means v.limit g s w x → kind_of g x ≡ 3 → ((q : ℕ) → get_or s q false ≡ true → object_kind (object_at g q) ≡ 3 → w ≡ reference v.limit g s q → rule ≡ figure_of (object_at g (map_of (object_at g q)))) → n ≡ get_or v.words (w / 4 + 1) 0 → raws m rule n ≡ layout_raws m g (object_of g x)
   raws-read empty w rule n is k f e = absurd (omega arith)
   raws-read (number z) w rule n is k f e = absurd (omega arith)
