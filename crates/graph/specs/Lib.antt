@@ -13,3 +13,4 @@ pub mod Runs
 pub mod Sliding
 pub mod Altered
 pub mod ReadBack
+pub mod Nearest

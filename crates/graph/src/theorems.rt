@@ -80,3 +80,13 @@ pub fn stored_is_read_back() -> u8
 {
     0
 }
+
+ghost use Rattle.graph.specs.Nearest.{FillIsNearest};
+
+/// How full a heap is told to be is the whole number nearest to its live words in a hundred of its words, a half upward, and there is exactly one
+/// such number; 0 where it has no words.
+pub fn fill_is_nearest() -> u8
+    ensures { FillIsNearest }
+{
+    0
+}

@@ -4,3 +4,4 @@ mod Readings
 mod Exits
 mod Objects
 mod Stepping
+pub mod Collected

@@ -10,6 +10,7 @@ use Rattle.graph.specs.Words.{low_end, high_end, reference, value_word}
 use Rattle.graph.specs.Advance.{advance, cleared}
 use Rattle.graph.specs.declared.Refusal.TheVariants.{Full}
 use Rattle.graph.specs.Laws.{Fitting}
+use Rattle.graph.specs.Nearest.{FillOf}
 use Rattle.graph.specs.Rests.{Rests, state}
 use Rattle.heap.specs.declared.Heap.{Heap}
 use Rattle.heap.specs.Effects.{View, effect, Alters}
@@ -56,6 +57,10 @@ pub record Tells (m : Meaning) (before after : View) (live : ℕ) : Type 0 where
   pub told : (g : Graph) (s : List Bool) → Stands m before g s → live ≡ live_words g
   pub same : (g : Graph) (s : List Bool) → Stands m before g s → after ≡ before
   pub limit : after.limit ≡ before.limit
+
+-- the number told is the one that is nearest to the live words in a hundred of the heap's, a half upward, or 0 where it has none
+abbrev pub TellsFill : Meaning → View → ℕ → Type 0
+TellsFill m v told = (g : Graph) (s : List Bool) → Stands m v g s → FillOf (live_words g) v.limit told
 
 -- what a call gives, as an outcome
 abbrev pub outcome_of : {X : Type 0} → (X → ℤ) → Result X Refusal → Outcome

@@ -2,7 +2,8 @@
 ghost use Rattle.std.specs.Prelude.{◌≡◌, ℕ, ◌+◌, ◌-◌, ◌*◌, ◌<◌, ◌≤◌, ℤ, pos, Ok};
 ghost use Rattle.graph.specs.declared.Call.TheVariants.{Collect, Fill, Stepped, GivenUp};
 ghost use Rattle.graph.specs.Step.{percent};
-ghost use Rattle.heap.specs.Views.{view, Meets, Packs, Tells};
+ghost use Rattle.heap.specs.Views.{view, Meets, Packs, Tells, TellsFill};
+ghost use Rattle.heap.specs.Collected.{LeavesCollected, ClosesCollected};
 ghost use Rattle.heap.specs.Phases.{Begins, Draws, Closes, GivesUp};
 
 use crate::Heap;
@@ -38,6 +39,7 @@ impl<M: Memory, S: Scheme> Heap<M, S> {
     /// The backward update: the marked objects slide outward and lose their marks.
     pub(crate) fn slide_marked(&mut self)
         ensures closes { Closes (S.Scheme.meaning self.old.scheme) (view M.Memory.words self.old) (view M.Memory.words self.new) }
+        ensures collected { ClosesCollected (S.Scheme.meaning self.old.scheme) (view M.Memory.words self.old) (view M.Memory.words self.new) }
         ensures scheme { self.new.scheme ≡ self.old.scheme }
     {
         self.bounds = self.space.close(self.bounds);
@@ -46,6 +48,7 @@ impl<M: Memory, S: Scheme> Heap<M, S> {
     /// Packs the reachable objects, and tells the live words.
     pub(crate) fn pack(&mut self) -> u32
         ensures packs { Packs (S.Scheme.meaning self.old.scheme) (view M.Memory.words self.old) (view M.Memory.words self.new) result }
+        ensures collected { LeavesCollected (S.Scheme.meaning self.old.scheme) (view M.Memory.words self.old) (view M.Memory.words self.new) }
         ensures scheme { self.new.scheme ≡ self.old.scheme }
     {
         let live = self.mark();
@@ -65,16 +68,19 @@ impl<M: Memory, S: Scheme> Heap<M, S> {
         live
     }
 
-    /// Collects: what can be reached is packed, the rest is gone. Tells the live words.
+    /// Packs the reachable objects, and answers the live words. Each of them slides outward over the garbage on its side, and its words with it: a
+    /// reference to it, wherever it stands, is renewed, and every other word of it stays as it was.
     pub fn collect(&mut self) -> u32
-        ensures { Meets M.Memory.words S.Scheme.meaning Collect self.old self.new (Ok (pos result)) }
+        ensures meets { Meets M.Memory.words S.Scheme.meaning Collect self.old self.new (Ok (pos result)) }
+        ensures collected { LeavesCollected (S.Scheme.meaning self.old.scheme) (view M.Memory.words self.old) (view M.Memory.words self.new) }
     {
         self.pack()
     }
 
     /// How full the heap is: its live words in a hundred of all, rounded. Of no words it is 0.
     pub fn fill(&mut self) -> u32
-        ensures { Meets M.Memory.words S.Scheme.meaning Fill self.old self.new (Ok (pos result)) }
+        ensures meets { Meets M.Memory.words S.Scheme.meaning Fill self.old self.new (Ok (pos result)) }
+        ensures nearest { TellsFill (S.Scheme.meaning self.old.scheme) (view M.Memory.words self.old) result }
     {
         let live = self.weigh();
         percent(live, self.bounds.limit)

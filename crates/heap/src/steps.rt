@@ -2,6 +2,7 @@
 ghost use Rattle.std.specs.Prelude.{◌≡◌, ℤ, pos, Ok};
 ghost use Rattle.graph.specs.declared.Call.TheVariants.{Stepped, GivenUp};
 ghost use Rattle.heap.specs.Views.{view, Meets};
+ghost use Rattle.heap.specs.Collected.{LeavesCollected};
 ghost use Rattle.heap.specs.Phases.{Begins};
 
 use crate::{Begun, Heap};
@@ -20,7 +21,8 @@ impl<M: Memory, S: Scheme> Heap<M, S> {
 
     /// A whole collection by its steps, the same as `collect`; with the live words.
     pub fn collect_by_steps(self) -> (Self, u32)
-        ensures { Meets M.Memory.words S.Scheme.meaning Stepped self result.0 (Ok (pos result.1)) }
+        ensures meets { Meets M.Memory.words S.Scheme.meaning Stepped self result.0 (Ok (pos result.1)) }
+        ensures collected { LeavesCollected (S.Scheme.meaning self.scheme) (view M.Memory.words self) (view M.Memory.words result.0) }
     {
         self.begin().draw().close()
     }

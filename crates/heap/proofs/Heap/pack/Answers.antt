@@ -1,4 +1,5 @@
 use Rattle.std.proofs.Common.{◌∙◌}
+use Rattle.heap.proofs.Collected.{packs-collected}
 use Rattle.heap.proofs.Stepping.{packs-by}
 use Rattle.heap.proofs.Heap.pack.Goals as goal
 
@@ -7,7 +8,5 @@ returns g c =
     let begins = c.mark-live.ensures in
     let draws = c.thread_marked.ensures in
     let closes = c.slide_marked.ensures in
-    record {
-      packs = packs-by g.S.Scheme.meaning _ _ _ _ _ _ _ _ begins.begins begins.scheme draws.draws draws.scheme closes.closes;
-      scheme = closes.scheme ∙ draws.scheme ∙ begins.scheme;
-    }
+    let packs = packs-by g.S.Scheme.meaning _ _ _ _ _ _ _ _ begins.begins begins.scheme draws.draws draws.scheme closes.closes in
+    record { packs = packs; collected = packs-collected _ _ _ _ packs; scheme = closes.scheme ∙ draws.scheme ∙ begins.scheme }
