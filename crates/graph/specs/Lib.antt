@@ -14,3 +14,4 @@ pub mod Sliding
 pub mod Altered
 pub mod ReadBack
 pub mod Nearest
+pub mod Order

@@ -83,10 +83,20 @@ pub fn stored_is_read_back() -> u8
 
 ghost use Rattle.graph.specs.Nearest.{FillIsNearest};
 
-/// How full a heap is told to be is the whole number nearest to its live words in a hundred of its words, a half upward, and there is exactly one
-/// such number; 0 where it has no words.
+/// How full a heap is told to be is the whole number nearest to its live words in a hundred of its words, a half
+/// upward, and there is exactly one such number; 0 where it has no words.
 pub fn fill_is_nearest() -> u8
     ensures { FillIsNearest }
+{
+    0
+}
+
+ghost use Rattle.graph.specs.Order.{OrderIsFree, OrderExists};
+
+/// The order in which objects are marked is left free: whichever it is, exactly the reachable objects are marked. Every graph has such an order.
+pub fn order_of_marking_is_free() -> u8
+    ensures free { OrderIsFree }
+    ensures some { OrderExists }
 {
     0
 }

@@ -1,7 +1,7 @@
 -- What stands after a collection, and what has become of each word.
-use Rattle.std.proofs.Common.{◌≡◌, ℕ, zero, suc, ◌+◌, ◌<◌, Bool, true, false, List, [], ◌∷◌, map, length, get_or, take, drop, sym, refl, ap, ◌∙◌, subst, ap₂, arith}
+use Rattle.std.proofs.Common.{◌≡◌, ℕ, zero, suc, ◌<◌, Bool, true, false, List, [], ◌∷◌, map, get_or, drop, sym, refl, ap, ◌∙◌, subst, arith}
 use Rattle.scheme.specs.Meaning.{Meaning}
-use Rattle.graph.specs.Graph.{Value, empty, number, object, Cell, raw, value, Object, a_record, a_layout, a_map, Graph, held, object_at, size}
+use Rattle.graph.specs.Graph.{Value, empty, number, object, Cell, raw, value, Object, a_record, a_layout, a_map, Graph, held, object_at}
 use Rattle.graph.specs.Reach.{Reachable, reachable}
 use Rattle.graph.specs.Step.{cell_value}
 use Rattle.graph.specs.Words.{high_end, reference, value_word, field_word, object_words}

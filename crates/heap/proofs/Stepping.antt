@@ -61,6 +61,7 @@ begin-begins m v w live begins low high limit =
             limited = limit ∙ st.limited ∙ ap (λ (n : ℕ). min n 16384) (sym long);
             live_is = b.live;
           };
+      any_order = λ g s st. (begins g s (omega (arith, st.limited)) st.rests st.low_is st.high_is).any_order;
       low = low;
       high = high;
       limit = limit;

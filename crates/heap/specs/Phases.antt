@@ -1,9 +1,10 @@
 -- A collection by steps: what a begun and a drawn heap are, and what each step promises.
-use Rattle.std.specs.Prelude.{◌≡◌, ℕ, min, Bool, List, length, drop}
+use Rattle.std.specs.Prelude.{◌≡◌, ℕ, min, Bool, List, ◌++◌, length, drop}
 use Rattle.scheme.specs.Meaning.{Meaning}
 use Rattle.graph.specs.Graph.{Graph}
 use Rattle.graph.specs.Reach.{reachable, live_words}
-use Rattle.graph.specs.Words.{low_end, high_end}
+use Rattle.graph.specs.Order.{OrderOfMarking, marks_of}
+use Rattle.graph.specs.Words.{image, low_end, high_end}
 use Rattle.space.specs.Layout.{Begun}
 use Rattle.space.specs.Collect.{Drawn}
 use Rattle.heap.specs.Effects.{View}
@@ -28,6 +29,10 @@ pub record DrawnAs (m : Meaning) (v : View) (live : ℕ) (g : Graph) (s : List B
 -- what begin leaves: a begun heap, whose sides end where they did
 pub record Begins (m : Meaning) (before after : View) (live : ℕ) : Type 0 where
   pub begun : (g : Graph) (s : List Bool) → Stands m before g s → BegunAs m after live g s (drop before.limit before.words)
+  -- The order of marking is left free: in whichever order objects are marked, these are the words, with the marks on the objects of that order.
+  pub any_order :
+      (g : Graph) (s : List Bool) → Stands m before g s → (order : List ℕ) → OrderOfMarking g order →
+      after.words ≡ image before.limit g s (marks_of g order) ++ drop before.limit before.words
   pub low : after.low ≡ before.low
   pub high : after.high ≡ before.high
   pub limit : after.limit ≡ before.limit

@@ -39,7 +39,8 @@ impl<M: Memory, S: Scheme> Heap<M, S> {
     /// The backward update: the marked objects slide outward and lose their marks.
     pub(crate) fn slide_marked(&mut self)
         ensures closes { Closes (S.Scheme.meaning self.old.scheme) (view M.Memory.words self.old) (view M.Memory.words self.new) }
-        ensures collected { ClosesCollected (S.Scheme.meaning self.old.scheme) (view M.Memory.words self.old) (view M.Memory.words self.new) }
+        ensures collected { ClosesCollected (S.Scheme.meaning self.old.scheme)
+            (view M.Memory.words self.old) (view M.Memory.words self.new) }
         ensures scheme { self.new.scheme ≡ self.old.scheme }
     {
         self.bounds = self.space.close(self.bounds);
@@ -48,7 +49,8 @@ impl<M: Memory, S: Scheme> Heap<M, S> {
     /// Packs the reachable objects, and tells the live words.
     pub(crate) fn pack(&mut self) -> u32
         ensures packs { Packs (S.Scheme.meaning self.old.scheme) (view M.Memory.words self.old) (view M.Memory.words self.new) result }
-        ensures collected { LeavesCollected (S.Scheme.meaning self.old.scheme) (view M.Memory.words self.old) (view M.Memory.words self.new) }
+        ensures collected { LeavesCollected (S.Scheme.meaning self.old.scheme)
+            (view M.Memory.words self.old) (view M.Memory.words self.new) }
         ensures scheme { self.new.scheme ≡ self.old.scheme }
     {
         let live = self.mark();
@@ -68,11 +70,12 @@ impl<M: Memory, S: Scheme> Heap<M, S> {
         live
     }
 
-    /// Packs the reachable objects, and answers the live words. Each of them slides outward over the garbage on its side, and its words with it: a
-    /// reference to it, wherever it stands, is renewed, and every other word of it stays as it was.
+    /// Packs the reachable objects, and answers the live words. Each of them slides outward over the garbage on
+    /// its side, with all its words. Each reference, in a handle or an object, goes to the object that it went to.
     pub fn collect(&mut self) -> u32
         ensures meets { Meets M.Memory.words S.Scheme.meaning Collect self.old self.new (Ok (pos result)) }
-        ensures collected { LeavesCollected (S.Scheme.meaning self.old.scheme) (view M.Memory.words self.old) (view M.Memory.words self.new) }
+        ensures collected { LeavesCollected (S.Scheme.meaning self.old.scheme)
+            (view M.Memory.words self.old) (view M.Memory.words self.new) }
     {
         self.pack()
     }
@@ -80,7 +83,8 @@ impl<M: Memory, S: Scheme> Heap<M, S> {
     /// How full the heap is: its live words in a hundred of all, rounded. Of no words it is 0.
     pub fn fill(&mut self) -> u32
         ensures meets { Meets M.Memory.words S.Scheme.meaning Fill self.old self.new (Ok (pos result)) }
-        ensures nearest { TellsFill (S.Scheme.meaning self.old.scheme) (view M.Memory.words self.old) result }
+        ensures nearest { TellsFill (S.Scheme.meaning self.old.scheme)
+            (view M.Memory.words self.old) result }
     {
         let live = self.weigh();
         percent(live, self.bounds.limit)

@@ -10,7 +10,8 @@ use memory::Memory;
 use scheme::Scheme;
 
 impl<M: Memory, S: Scheme> Heap<M, S> {
-    /// Begins a collection: each object that can be reached gets its mark, and that is all.
+    /// Begins a collection: marks exactly the reachable objects and alters no other bit. The order of marking
+    /// alone is left free, and no word depends on it.
     pub fn begin(mut self) -> Begun<M, S>
         ensures begins { Begins (S.Scheme.meaning self.scheme) (view M.Memory.words self) (view M.Memory.words result.heap) result.live }
         ensures scheme { result.heap.scheme ≡ self.scheme }
@@ -22,7 +23,8 @@ impl<M: Memory, S: Scheme> Heap<M, S> {
     /// A whole collection by its steps, the same as `collect`; with the live words.
     pub fn collect_by_steps(self) -> (Self, u32)
         ensures meets { Meets M.Memory.words S.Scheme.meaning Stepped self result.0 (Ok (pos result.1)) }
-        ensures collected { LeavesCollected (S.Scheme.meaning self.scheme) (view M.Memory.words self) (view M.Memory.words result.0) }
+        ensures collected { LeavesCollected (S.Scheme.meaning self.scheme)
+            (view M.Memory.words self) (view M.Memory.words result.0) }
     {
         self.begin().draw().close()
     }

@@ -9,6 +9,7 @@ use Rattle.graph.specs.Words.{place_of, reference, header_kind, value_word, imag
 use Rattle.graph.specs.Sound.{Sound}
 use Rattle.graph.specs.Rests.{Rests}
 use Rattle.graph.proofs.Reach.{reachable-sound, reachable-complete}
+use Rattle.graph.proofs.Order.{order-is-free}
 use Rattle.graph.proofs.Sound.{sound-collects}
 use Rattle.graph.proofs.Frame.{length-image, size-pos}
 use Rattle.graph.proofs.Grow.{total-same}
@@ -247,6 +248,7 @@ begins m W low high ws hs us is vs gs q r t none end begin bare k1 roots k2 sett
           };
       handles = im.1 ∙ sym rests.handle_words_are;
       live = done.lives ∙ live_is m W g s snd lim rest (reachable g) stand (view vs gs) marks;
+      any_order = λ order o. im.0 ∙ ap (λ (k : List Bool). image W g s k ++ rest) (sym (order-is-free g order o).marks);
     }
 
 -- clamped to the words, the ends of the sides are as they were

@@ -1,9 +1,10 @@
--- What begins a collection, and what gives one up, said of the graph and not of its marks.
-use Rattle.std.specs.Prelude.{◌≡◌, ℕ, ◌≤◌, Bool, List, drop}
+-- The begin of a collection, and its giving up, in the words of the still graph.
+use Rattle.std.specs.Prelude.{◌≡◌, ℕ, ◌≤◌, Bool, List, ◌++◌, drop}
 use Rattle.scheme.specs.Meaning.{Meaning}
 use Rattle.graph.specs.Graph.{Graph}
 use Rattle.graph.specs.Reach.{reachable, live_words}
-use Rattle.graph.specs.Words.{low_end, high_end}
+use Rattle.graph.specs.Order.{OrderOfMarking, marks_of}
+use Rattle.graph.specs.Words.{image, low_end, high_end}
 use Rattle.graph.specs.Rests.{Rests}
 use Rattle.space.specs.Layout.{Begun}
 
@@ -12,6 +13,8 @@ pub record BeginsWith (m : Meaning) (W : ℕ) (g : Graph) (s : List Bool) (ws hs
   pub begun : Begun m W g s (reachable g) (drop W ws) vs gs low high
   pub handles : gs ≡ hs
   pub live : words ≡ live_words g
+  -- The order of marking is left free: in whichever order objects are marked, these are the words, with the marks on the objects of that order.
+  pub any_order : (order : List ℕ) → OrderOfMarking g order → vs ≡ image W g s (marks_of g order) ++ drop W ws
 
 -- for every graph and standing objects that the heap rests with
 abbrev pub Begins : Meaning → ℕ → ℕ → ℕ → List ℕ → List ℕ → List ℕ → List ℕ → ℕ → Type 0

@@ -226,7 +226,9 @@ impl Pending {
     }
 }
 
-/// Marks the reachable objects, and tells how many words they take.
+/// Marks the reachable objects, and tells how many words they take. The order of marking is left free: here what the
+/// handles name comes first, then what the latest pending object names, and at last, where the places ran out, what
+/// the classes and the records that are met again name. Whatever the order, the same objects are marked.
 pub fn begin<M: Memory, S: Scheme>(space: &mut Space<M>, scheme: &S, bounds: Bounds) -> u32
     ensures { Begins (S.Scheme.meaning scheme.now) bounds.limit bounds.low bounds.high (M.Memory.words space.old.memory) space.old.handles (M.Memory.words space.new.memory) space.new.handles result }
 {
