@@ -13,5 +13,6 @@ pub mod Runs
 pub mod Sliding
 pub mod Altered
 pub mod ReadBack
+pub mod Kept
 pub mod Nearest
 pub mod Order

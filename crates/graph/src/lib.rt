@@ -9,7 +9,7 @@ mod theorems;
 pub use theorems::{
     alterations_stand, collections_unnoticed, fill_is_nearest, laws_stand,
     order_of_marking_is_free, reachability_stands, sliding_stands, soundness_stands,
-    stored_is_read_back, worked_examples_stand,
+    stored_is_read_back, stored_stays, worked_examples_stand,
 };
 
 /// A call with its arguments, from left to right.

@@ -81,6 +81,15 @@ pub fn stored_is_read_back() -> u8
     0
 }
 
+ghost use Rattle.graph.specs.Kept.{StoredStays};
+
+/// What was stored stays, through whatever is called, until a call that was granted overwrites it: a handle's value, a raw field, a value field.
+pub fn stored_stays() -> u8
+    ensures { StoredStays }
+{
+    0
+}
+
 ghost use Rattle.graph.specs.Nearest.{FillIsNearest};
 
 /// How full a heap is told to be is the whole number nearest to its live words in a hundred of its words, a half
@@ -93,7 +102,8 @@ pub fn fill_is_nearest() -> u8
 
 ghost use Rattle.graph.specs.Order.{OrderIsFree, OrderExists};
 
-/// The order in which objects are marked is left free: whichever it is, exactly the reachable objects are marked. Every graph has such an order.
+/// The order in which objects are marked is left free: whichever it is, exactly the reachable objects are marked.
+/// Every graph has such an order.
 pub fn order_of_marking_is_free() -> u8
     ensures free { OrderIsFree }
     ensures some { OrderExists }
