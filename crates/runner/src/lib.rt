@@ -5,6 +5,7 @@ ghost use Rattle.std.specs.Prelude.{◌≡◌, ℕ, ◌<◌, ◌≤◌, List, �
 ghost use Rattle.scheme.specs.Meaning.{prefix};
 ghost use Rattle.lexer.specs.Pieces.{lines};
 ghost use Rattle.report.specs.Faults.{on_line};
+ghost use Rattle.report.specs.Laws.{KeepsLaws, Shows};
 ghost use Rattle.report.specs.Loads.{loaded};
 ghost use Rattle.report.specs.Reports.{output};
 ghost use Rattle.heap.specs.Views.{view};
@@ -67,14 +68,16 @@ fn run_lines<M: Memory, S: Scheme>(
     Ok(())
 }
 
-/// The reports of a load over a new heap in the memory: those that the rules of the text and the still graph give.
+/// The reports of a load over a new heap in the memory: those that the rules of the text and the still graph give. One for each call line,
+/// in order; and neither a line with a fault nor a collect line changes what is told of any other.
 pub fn run_load<M: Memory + Drop, S: Scheme + Drop>(
     memory: M,
     scheme: S,
     input: &[u8],
     alloc: Global,
 ) -> Result<Vec<Report>, AllocError>
-    ensures { IfOk result (λ v. v.items ≡ loaded (S.Scheme.meaning scheme) (heap_words (M.Memory.words memory)) input.now) }
+    ensures reports { IfOk result (λ v. v.items ≡ loaded (S.Scheme.meaning scheme) (heap_words (M.Memory.words memory)) input.now) }
+    ensures laws { IfOk result (λ v. KeepsLaws (S.Scheme.meaning scheme) (heap_words (M.Memory.words memory)) input.now v.items) }
 {
     let mut reports = Vec::new(alloc);
     match open_load(input) {
@@ -91,7 +94,8 @@ pub fn run_load<M: Memory + Drop, S: Scheme + Drop>(
 
 /// The whole output for an input, from an empty heap of 64 words on, by the scheme PREFIX.
 pub fn answer_load(input: &[u8], alloc: Global) -> Result<String, AllocError>
-    ensures { IfOk result (λ s. string_bytes s ≡ output (loaded prefix 64 input.now)) }
+    ensures text { IfOk result (λ s. string_bytes s ≡ output (loaded prefix 64 input.now)) }
+    ensures laws { IfOk result (λ s. Shows prefix 64 input.now (string_bytes s)) }
 {
     let mut words = [0u32; 64];
     let reports = run_load(&mut words[..], Prefix, input, alloc)?;
