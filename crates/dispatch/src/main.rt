@@ -2,11 +2,16 @@
 // both schemes.
 #![tactic(auto)]
 
+mod day;
+mod twice;
+
+use day::calls_of_day;
 use graph::Refusal;
 use heap::Heap;
 use memory::Memory;
 use scheme::{Mask, Prefix, Scheme};
 use std::io;
+use twice::{Twice, serve_twice};
 
 // The handles of this program: numbers, as the calls of the heap take them.
 const MAP: u32 = 0;
@@ -222,6 +227,23 @@ fn run<M: Memory + Drop, S: Scheme + Drop>(
     evening
 }
 
+/// The day as a list of calls, over words without a collection, and over bytes with collections of each kind in between.
+fn show_twice(rt: &HostRuntime) -> io::Result<()> {
+    let day = calls_of_day(rt.alloc())?;
+    let Twice {
+        over_words,
+        over_bytes,
+    } = serve_twice(day.as_slice(), rt.alloc())?;
+    println!(rt;
+        "the day as a list of {} calls, over words as it is, over bytes with a collection behind each",
+        day.len()
+    )?;
+    let refused = over_words.iter().filter(|answer| answer.is_err()).count();
+    println!(rt; "  {refused} of the calls are refused")?;
+    let agree = over_words == over_bytes;
+    println!(rt; "  all answers but the collections' agree: {agree}")
+}
+
 fn main(rt: HostRuntime) -> io::Result<()> {
     let mut words = [9u32; 48];
     let mut bytes = [9u8; 195];
@@ -232,5 +254,6 @@ fn main(rt: HostRuntime) -> io::Result<()> {
     println!(rt;
         "leftover bytes: {} {} {}",
         bytes[192], bytes[193], bytes[194]
-    )
+    )?;
+    show_twice(&rt)
 }
