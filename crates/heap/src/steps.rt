@@ -10,8 +10,8 @@ use memory::Memory;
 use scheme::Scheme;
 
 impl<M: Memory, S: Scheme> Heap<M, S> {
-    /// Begins a collection: marks exactly the reachable objects and alters no other bit. The order of marking
-    /// alone is left free, and no word depends on it.
+    /// Begins a collection: each object that can be reached gets its mark, and that is all. In which order they
+    /// get it is left free, and no word depends on it.
     pub fn begin(mut self) -> Begun<M, S>
         ensures begins { Begins (S.Scheme.meaning self.scheme) (view M.Memory.words self) (view M.Memory.words result.heap) result.live }
         ensures scheme { result.heap.scheme ≡ self.scheme }

@@ -68,7 +68,7 @@ fn run_lines<M: Memory, S: Scheme>(
     Ok(())
 }
 
-/// The reports of a load over a new heap in the memory: those that the rules of the text and the still graph give. One for each call line,
+/// The reports of a load over a new heap in the memory: what the text says and the still graph answers. One for each call line,
 /// in order; and neither a line with a fault nor a collect line changes what is told of any other.
 pub fn run_load<M: Memory + Drop, S: Scheme + Drop>(
     memory: M,

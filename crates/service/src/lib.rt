@@ -98,7 +98,7 @@ fn serve_reserved<M: Memory, S: Scheme>(
 
 /// Gives a list of calls to a new heap over the memory. No list can tell the heap from the still
 /// graph, in which nothing ever moves. The answers and refusals are the still graph's. After each
-/// call, wherever it stands in the list, every word is the one that the rules define, and at the
+/// call, wherever it stands in the list, every word is that of the still graph, and at the
 /// end of each collection the packed words alone stand. And whatever list that differs only in its
 /// collections, at once, by steps or given up, was given to whatever new heap of as many words:
 /// all its other calls had the same answers. Fails only where there is no memory for the answers,
