@@ -1,8 +1,12 @@
--- A list of calls that store and read back, and what it is answered.
-use Rattle.std.specs.Prelude.{List, [], ◌∷◌, ℤ, pos, negsuc, Ok}
+-- A list of calls that store and read back, and what it is answered; and what stays in any list.
+use Rattle.std.specs.Prelude.{ℕ, List, [], ◌∷◌, ℤ, pos, negsuc, Ok}
 use Rattle.graph.specs.declared.Call.{Call}
 use Rattle.graph.specs.declared.Call.TheVariants.{Num, Clear, Map, Layout, Record, Load, Save, RawLoad, RawSave, Value as ValueOf, Same, Part, Collect, Stepped, GivenUp}
+use Rattle.graph.specs.Graph.{bare}
 use Rattle.graph.specs.Step.{Outcome}
+use Rattle.graph.specs.Kept.{Kept}
+use Rattle.scheme.specs.Meaning.{Meaning}
+use Rattle.service.specs.Still.{heap_words}
 
 abbrev pub stored : List Call
 stored =
@@ -30,3 +34,7 @@ read_back =
     ∷ tells (pos 14) ∷ done ∷ tells (pos 0) ∷ tells (pos 2) ∷ done ∷ tells (pos 1)
     ∷ done ∷ done
     ∷ done ∷ done ∷ tells (pos 536_870_911) ∷ done ∷ tells (pos 1) ∷ done ∷ tells (pos 1) ∷ []
+
+-- in a list of calls over a new heap, what was stored stays, whatever is called, until a call that was granted overwrites it
+abbrev pub StaysStored : Meaning → List ℕ → List Call → List Outcome → Type 0
+StaysStored m memory calls answers = Kept m (heap_words memory) bare calls answers

@@ -4,7 +4,7 @@
 ghost use Rattle.std.specs.Prelude.{◌≡◌, List, IfOk, length};
 ghost use Rattle.scheme.specs.Meaning.{prefix, mask};
 ghost use Rattle.service.specs.Still.{answers_of};
-ghost use Rattle.readback.specs.Stored.{stored, read_back};
+ghost use Rattle.readback.specs.Stored.{stored, read_back, StaysStored};
 ghost use Rattle.readback.specs.Pairs.{AllReadBack};
 
 use graph::{Call, Outcome};
@@ -25,8 +25,10 @@ pub struct Pairs {
     pub bytes_under_mask: Vec<Outcome>,
 }
 
-/// What calls to a new heap are answered, one after another; then the heap is taken apart. Over any memory of 32 words, under either scheme, the stored
-/// calls are answered what was stored.
+/// What calls to a new heap are answered, one after another; then the heap is taken apart. Over any
+/// memory, under any scheme, what a call stored is read back by any later one, until a call that was
+/// granted overwrites it. Over any memory of 32 words, under either scheme, the stored calls are
+/// answered what was stored.
 pub fn answers<M: Memory + Drop, S: Scheme + Drop>(
     memory: M,
     scheme: S,
@@ -34,6 +36,7 @@ pub fn answers<M: Memory + Drop, S: Scheme + Drop>(
     alloc: Global,
 ) -> Result<Vec<Outcome>, AllocError>
     ensures told { IfOk result (λ v. v.items ≡ answers_of (S.Scheme.meaning scheme) (M.Memory.words memory) calls.now) }
+    ensures stays { IfOk result (λ v. StaysStored (S.Scheme.meaning scheme) (M.Memory.words memory) calls.now v.items) }
     ensures by_prefix { S.Scheme.meaning scheme ≡ prefix → length (M.Memory.words memory) ≡ 32 → calls.now ≡ stored → IfOk result (λ v. v.items ≡ read_back) }
     ensures by_mask { S.Scheme.meaning scheme ≡ mask → length (M.Memory.words memory) ≡ 32 → calls.now ≡ stored → IfOk result (λ v. v.items ≡ read_back) }
 {
