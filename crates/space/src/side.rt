@@ -1,4 +1,5 @@
-// The two sides of a heap: records from the left by their headers, classes from the right by their boundary tags.
+// The two sides of a heap: records from the left by their headers, classes from the right by their
+// boundary tags.
 ghost use Rattle.std.specs.Prelude.{◌≡◌, ◌+◌, ◌*◌, ◌/◌, ◌%◌, ◌^◌, ◌<◌, ◌≤◌, ◌==◌, Bool, false, length, min, nat_le};
 ghost use Rattle.space.specs.Ends.{innermost, taken, tag_by};
 ghost use Rattle.space.specs.Pass.{place_by, next_by, before};
@@ -26,8 +27,8 @@ pub trait Side {
     fn is_before(cursor: u32, end: u32) -> bool
         ensures { result ≡ before upward cursor end };
 
-    // Where the header lies of the object that the cursor has come to, be references threaded or not.
-    // None if its boundary tag would not lead on, as in wild words.
+    // Where the header lies of the object that the cursor has come to, be references threaded or
+    // not. None if its boundary tag would not lead on, as in wild words.
     fn header_place<M: Memory>(memory: &M, cursor: u32) -> Option<u32>
         requires { Among upward (min (length (M.Memory.words memory.now)) 16384) cursor }
         ensures { FindsHeader upward (M.Memory.words memory.now) cursor result };
@@ -72,7 +73,8 @@ pub trait Side {
         ensures { place < 1073741824 → result ≡ place * 4 + tag_by upward };
 }
 
-/// The object that the cursor has come to, where nothing is threaded. None if its size would not lead on, as in wild words.
+/// The object that the cursor has come to, where nothing is threaded. None if its size would not
+/// lead on, as in wild words.
 #[inline(always)]
 pub fn scan<T: Side, M: Memory>(memory: &M, cursor: u32) -> Option<Object>
     requires { Among T.Side.upward (min (length (M.Memory.words memory.now)) 16384) cursor }

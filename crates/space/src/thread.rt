@@ -1,4 +1,5 @@
-// Threading: the slots that refer to an object form a list that begins at its header's place and ends with the header.
+// Threading: the slots that refer to an object form a list that begins at its header's place and
+// ends with the header.
 ghost use Rattle.std.specs.Prelude.{◌≡◌, length, min, IfSome};
 ghost use Rattle.space.specs.Met.{Among, Met, Unthreaded};
 ghost use Rattle.space.specs.Slots.{address, There};
@@ -35,7 +36,8 @@ impl<M: Memory> Space<M> {
     #[inline(always)]
     pub(crate) fn fill(&mut self, slot: Slot, word: u32)
         requires { There (min (length (M.Memory.words self.old.memory)) 16384) slot }
-        ensures { Stored (M.Memory.words self.old.memory) self.old.handles (address slot) word (M.Memory.words self.new.memory) self.new.handles }
+        ensures { Stored (M.Memory.words self.old.memory) self.old.handles (address slot) word
+            (M.Memory.words self.new.memory) self.new.handles }
     {
         match slot {
             Slot::Word(place) => self.memory.write_within(place as usize, word),
@@ -48,13 +50,15 @@ impl<M: Memory> Space<M> {
     pub(crate) fn thread(&mut self, limit: u32, slot: Slot, word: u32)
         requires limit { limit ≡ min (length (M.Memory.words self.old.memory)) 16384 }
         requires slot { There limit slot }
-        ensures woven { word ≡ view (M.Memory.words self.old.memory) self.old.handles (address slot) → Threaded (M.Memory.words self.old.memory) self.old.handles (address slot) (M.Memory.words self.new.memory) self.new.handles }
+        ensures woven { word ≡ view (M.Memory.words self.old.memory) self.old.handles (address slot)
+            → Threaded (M.Memory.words self.old.memory) self.old.handles (address slot)
+            (M.Memory.words self.new.memory) self.new.handles }
         ensures kept { KeptIn M.Memory.words self.old self.new }
     {
         let place = place_of(word);
         if place >= limit {
-            // In wild words: there is no header, as where `look` finds none. Not left as it is, for then this test and the one for a reference are
-            // compiled into one, which costs more.
+            // In wild words: there is no header, as where `look` finds none. Not left as it is, for
+            // then this test and the one for a reference are compiled into one, which costs more.
             return self.fill(slot, 0);
         }
         let header = self.memory.read_within(place as usize);
@@ -82,7 +86,8 @@ impl<M: Memory> Space<M> {
     fn replace(&mut self, limit: u32, address: u32, word: u32) -> u32
         requires { limit ≡ min (length (M.Memory.words self.old.memory)) 16384 }
         ensures word { result ≡ view (M.Memory.words self.old.memory) self.old.handles address }
-        ensures stored { Stored (M.Memory.words self.old.memory) self.old.handles address word (M.Memory.words self.new.memory) self.new.handles }
+        ensures stored { Stored (M.Memory.words self.old.memory) self.old.handles address word
+            (M.Memory.words self.new.memory) self.new.handles }
     {
         if address < limit {
             let old = self.memory.read_within(address as usize);
@@ -98,11 +103,13 @@ impl<M: Memory> Space<M> {
         }
     }
 
-    // Follows the list that begins with the link, so many turns, and puts the reference into each of its slots.
+    // Follows the list that begins with the link, so many turns, and puts the reference into each
+    // of its slots.
     #[inline(always)]
     fn rewrite(&mut self, limit: u32, first: u32, turns: u32, reference: u32)
         requires { limit ≡ min (length (M.Memory.words self.old.memory)) 16384 }
-        ensures rewrites { Rewrites (M.Memory.words self.old.memory) self.old.handles first turns reference (M.Memory.words self.new.memory) self.new.handles }
+        ensures rewrites { Rewrites (M.Memory.words self.old.memory) self.old.handles first turns
+            reference (M.Memory.words self.new.memory) self.new.handles }
         ensures kept { KeptIn M.Memory.words self.old self.new }
     {
         let mut link = first;
@@ -111,14 +118,18 @@ impl<M: Memory> Space<M> {
         }
     }
 
-    // Takes the list off the object that the cursor has come to: its header stands at its place again, and each slot of the list refers to where it
-    // is to lie, `to` being the new cursor. Gives the object; none if its size would not lead on, as in wild words.
+    // Takes the list off the object that the cursor has come to: its header stands at its place
+    // again, and each slot of the list refers to where it is to lie, `to` being the new cursor.
+    // Gives the object; none if its size would not lead on, as in wild words.
     #[inline(always)]
     pub(crate) fn unthread<T: Side>(&mut self, limit: u32, cursor: u32, to: u32) -> Option<Object>
         requires limit { limit ≡ min (length (M.Memory.words self.old.memory)) 16384 }
         requires cursor { Among T.Side.upward limit cursor }
-        ensures met { Met T.Side.upward (M.Memory.words self.old.memory) self.old.handles cursor result }
-        ensures unthreaded { IfSome result (Unthreaded T.Side.upward (M.Memory.words self.old.memory) self.old.handles to (M.Memory.words self.new.memory) self.new.handles) }
+        ensures met { Met T.Side.upward (M.Memory.words self.old.memory) self.old.handles cursor
+            result }
+        ensures unthreaded { IfSome result (Unthreaded T.Side.upward
+            (M.Memory.words self.old.memory) self.old.handles to
+            (M.Memory.words self.new.memory) self.new.handles) }
         ensures kept { KeptIn M.Memory.words self.old self.new }
     {
         let place = T::header_place(&self.memory, cursor)?;
@@ -138,7 +149,7 @@ impl<M: Memory> Space<M> {
             return None;
         }
         if turns > 0 {
-            // The references could not be made before: their tag is that of the kind which the header tells, and a record's header tells its size.
+            // Not made before now: its tag is that of the kind which the header tells.
             let reference = to_object(T::place(to, size), header);
             self.rewrite(limit, first, turns, reference);
             self.fill(Slot::Word(place), header);
