@@ -1,10 +1,10 @@
 -- Lists of calls over new heaps.
-use Rattle.std.proofs.Common.{◌≡◌, ℕ, ◌-◌, true, List, [], ◌∷◌, ◌++◌, length, drop, replicate, sym, refl, ap, ◌∙◌, subst, ap₂, inl, inr, length-append, length-drop, append-nil, arith}
+use Rattle.std.proofs.Common.{◌≡◌, ℕ, ◌+◌, ◌-◌, ◌<◌, true, List, [], ◌∷◌, ◌++◌, length, get_or, pos, take, drop, replicate, sym, refl, ap, ◌∙◌, subst, ap₂, inl, inr, length-append, length-drop, append-nil, arith}
 use Rattle.std.proofs.lemmas.Bool.{cases_Bool, cond-true, cond-false, false≢true}
-use Rattle.std.proofs.lemmas.List.{append_assoc, take_at, drop_at, length-replicate}
+use Rattle.std.proofs.lemmas.List.{append_assoc, take_more, take_at, drop_at, length-replicate}
 use Rattle.scheme.specs.Meaning.{Meaning}
 use Rattle.graph.specs.declared.Call.{Call}
-use Rattle.graph.specs.declared.Call.TheVariants.{Collect, Stepped, GivenUp}
+use Rattle.graph.specs.declared.Call.TheVariants.{Num, Collect, Stepped, GivenUp}
 use Rattle.graph.specs.Step.{Outcome, step, run}
 use Rattle.graph.specs.Graph.{Graph, bare}
 use Rattle.graph.specs.Reach.{reachable}
@@ -117,3 +117,12 @@ pub alike : (m m' : Meaning) (memory memory' : List ℕ) (calls calls' : List Ca
     → heap_words memory ≡ heap_words memory' → others calls ≡ others calls' → Alike m memory calls answers heap memory' calls' answers' heap'
 alike m m' memory memory' calls calls' answers answers' heap heap' one other means =
     unnoticed m memory calls answers heap one memory' calls' answers' heap' (subst (λ (n : Meaning). ServedAs n memory' calls' answers' heap') (sym means) other)
+
+-- call i of a list, behind those before it
+pub one-more : {S : Type 0} (meaning : S → Meaning) (scheme here : S) (memory : List ℕ) (calls : List Call) (i : ℕ) (os : List Outcome) (v : View) (ps : List Outcome) (w : View) → here ≡ scheme → i < length calls → ServedAs (meaning scheme) memory (take i calls) os v
+    → Continues (meaning here) v os (get_or calls i (Num 0 (pos 0)) ∷ []) ps w → ServedAs (meaning scheme) memory (take (i + 1) calls) ps w
+one-more meaning scheme here memory calls i os v ps w same lt was more =
+    let m : Meaning = meaning scheme in
+    let call : Call = get_or calls i (Num 0 (pos 0)) in
+    subst (λ (cs : List Call). ServedAs m memory cs ps w) (sym (take_more calls i (Num 0 (pos 0)) lt))
+    (as-one-list m v os (call ∷ []) ps w (subst (λ s. Continues (meaning s) v os (call ∷ []) ps w) same more) memory (take i calls) [] was)

@@ -67,6 +67,11 @@ pub record ServedAs (m : Meaning) (memory : List ℕ) (calls : List Call) (answe
       Moment m memory front c (slice_index_or (new_heap memory ∷ heaps) (length front) heap) (slice_index_or answers (length front) (Ok (pos 0)))
       (slice_index_or heaps (length front) heap)
 
+-- A heap that a new one became by these calls, with these answers, over a memory of whatever words.
+pub record Shown (m : Meaning) (calls : List Call) (answers : List Outcome) (heap : View) : Type 0 where
+  pub memory : List ℕ
+  pub served : ServedAs m memory calls answers heap
+
 -- Whatever list over a new heap left this heap, with answers of which those at hand are the last: with the calls behind it, it is one list.
 abbrev pub AsOneList : Meaning → View → List Outcome → List Call → List Outcome → View → Type 0
 AsOneList m heap at_hand calls answers last =

@@ -5,7 +5,7 @@ ghost use Rattle.std.specs.Prelude.{◌≡◌, ℕ, ◌+◌, ◌≤◌, ◌<◌,
 ghost use Rattle.graph.specs.Runs.{others};
 ghost use Rattle.heap.specs.Views.{view};
 ghost use Rattle.service.specs.Course.{Continues};
-ghost use Rattle.service.specs.Still.{heap_words, ServedAs, AsOneList, Alike, Unnoticed};
+ghost use Rattle.service.specs.Still.{heap_words, ServedAs, Shown, AsOneList, Alike, Unnoticed};
 
 use graph::{Call, Outcome};
 use heap::Heap;
@@ -39,6 +39,19 @@ impl<M: Memory, S: Scheme> Served<M, S> {
             Ok(()) => Ok(self.give_each(calls)),
             Err(_) => Err(AllocFailed { value: self }),
         }
+    }
+
+    /// A new heap, which was given no call.
+    fn new(memory: M, scheme: S, answers: Vec<Outcome>) -> Self
+        requires none { answers.items ≡ [] }
+        ensures served { ServedAs (S.Scheme.meaning scheme) (M.Memory.words memory)
+            [] result.answers.items (view M.Memory.words result.heap) }
+        ensures scheme { result.heap.scheme ≡ scheme }
+        ensures len { vec_len result.answers ≡ vec_len answers }
+        ensures capacity { vec_capacity result.answers ≡ vec_capacity answers }
+    {
+        let heap = Heap::new(memory, scheme);
+        Served { answers, heap }
     }
 
     /// Gives the heap the calls, with room for their answers behind those at hand.
@@ -92,8 +105,7 @@ fn serve_reserved<M: Memory, S: Scheme>(
         calls.now result.answers.items (view M.Memory.words result.heap) }
     ensures scheme { result.heap.scheme ≡ scheme }
 {
-    let heap = Heap::new(memory, scheme);
-    Served { answers, heap }.give_each(calls)
+    Served::new(memory, scheme, answers).give_each(calls)
 }
 
 /// Gives a list of calls to a new heap over the memory. No list can tell the heap from the still
@@ -117,6 +129,36 @@ pub fn serve<M: Memory + Drop, S: Scheme + Drop>(
 {
     let answers = Vec::with_capacity(alloc, calls.len())?;
     Ok(serve_reserved(memory, scheme, calls, answers))
+}
+
+/// Looks at a heap between the calls of a list.
+pub trait Onlooker<M: Memory, S: Scheme> {
+    /// Is shown the heap after each call, with the calls so far and their answers: a new heap that
+    /// was given these calls stands so.
+    fn look(&mut self, heap: &Heap<M, S>, calls: &[Call], answers: &[Outcome])
+        requires shown { Shown (S.Scheme.meaning heap.now.scheme) calls.now answers.now
+            (view M.Memory.words heap.now) };
+}
+
+/// Gives a list of calls to a new heap, as `serve` does, and shows the heap after each.
+pub fn serve_watched<M: Memory + Drop, S: Scheme + Drop, O: Onlooker<M, S>>(
+    memory: M,
+    scheme: S,
+    calls: &[Call],
+    onlooker: &mut O,
+    alloc: Global,
+) -> Result<Served<M, S>, AllocError>
+    ensures served { IfOk result (λ s. ServedAs (S.Scheme.meaning scheme) (M.Memory.words memory)
+        calls.now s.answers.items (view M.Memory.words s.heap)) }
+    ensures scheme { IfOk result (λ s. s.heap.scheme ≡ scheme) }
+{
+    let answers = Vec::with_capacity(alloc, calls.len())?;
+    let mut served = Served::new(memory, scheme, answers);
+    for (index, call) in calls.iter().enumerate() {
+        served = served.give(*call);
+        onlooker.look(&served.heap, &calls[..=index], served.answers.as_slice());
+    }
+    Ok(served)
 }
 
 /// Gives two lists of calls to two new heaps, each over a memory and a scheme of its own kind.
