@@ -33,7 +33,7 @@ collects-state m W c st o told how =
     ]
 
 -- the first words and the later ones
-all-words : (W : ℕ) (v w : View) → take W w.words ≡ take W v.words → drop W w.words ≡ drop W v.words → w.words ≡ v.words
+pub all-words : (W : ℕ) (v w : View) → take W w.words ≡ take W v.words → drop W w.words ≡ drop W v.words → w.words ≡ v.words
 all-words W v w front back =
     sym (take-append-drop W w.words) ∙ ap₂ {C = List ℕ} (λ (xs ys : List ℕ). xs ++ ys) front back ∙ take-append-drop W v.words
 

@@ -134,10 +134,13 @@ pub fn serve<M: Memory + Drop, S: Scheme + Drop>(
 /// Looks at a heap between the calls of a list.
 pub trait Onlooker<M: Memory, S: Scheme> {
     /// Is shown the heap after each call, with the calls so far and their answers: a new heap that
-    /// was given these calls stands so.
-    fn look(&mut self, heap: &Heap<M, S>, calls: &[Call], answers: &[Outcome])
-        requires shown { Shown (S.Scheme.meaning heap.now.scheme) calls.now answers.now
-            (view M.Memory.words heap.now) };
+    /// was given these calls stands so. Hands it back as it was; in between a collection may be
+    /// begun and given up, to see what lives.
+    fn look(&mut self, heap: Heap<M, S>, calls: &[Call], answers: &[Outcome]) -> Heap<M, S>
+        requires shown { Shown (S.Scheme.meaning heap.scheme) calls.now answers.now
+            (view M.Memory.words heap) }
+        ensures kept { view M.Memory.words result ≡ view M.Memory.words heap }
+        ensures scheme { result.scheme ≡ heap.scheme };
 }
 
 /// Gives a list of calls to a new heap, as `serve` does, and shows the heap after each.
@@ -155,8 +158,9 @@ pub fn serve_watched<M: Memory + Drop, S: Scheme + Drop, O: Onlooker<M, S>>(
     let answers = Vec::with_capacity(alloc, calls.len())?;
     let mut served = Served::new(memory, scheme, answers);
     for (index, call) in calls.iter().enumerate() {
-        served = served.give(*call);
-        onlooker.look(&served.heap, &calls[..=index], served.answers.as_slice());
+        let Served { answers, heap } = served.give(*call);
+        let heap = onlooker.look(heap, &calls[..=index], answers.as_slice());
+        served = Served { answers, heap };
     }
     Ok(served)
 }

@@ -1,17 +1,18 @@
 use Rattle.std.proofs.Common.{◌+◌, List, take, vec_items, sym, ◌∙◌, subst, arith}
 use Rattle.graph.specs.Step.{Outcome}
+use Rattle.heap.specs.Effects.{View}
 use Rattle.heap.specs.Views.{view}
 use Rattle.service.specs.Still.{ServedAs}
 use Rattle.service.proofs.Laws.{one-more}
 use Rattle.service.proofs.serve_watched.Goals as goal
 
-pub look-requires : goal.look-requires
-look-requires g c =
+pub look-heap-requires : goal.look-heap-requires
+look-heap-requires g c =
     let inv = c.loop-index.invariant in
     let words = g.M.Memory.words in
     let meaning = g.S.Scheme.meaning in
     let memory = words c.args.memory in
-    let now = c.give-served in
+    let now = c.give-answers in
     let v = view {S = g.row.S.Denot} words c.loop-index.served.heap in
     let w = view {S = g.row.S.Denot} words now.result.heap in
     let so_far = take (c.loop-index.index + 1) c.args.calls.now in
@@ -28,12 +29,18 @@ pub loop-index-preserved : goal.loop-index-preserved
 loop-index-preserved g c =
     let inv = c.loop-index.invariant in
     let words = g.M.Memory.words in
-    let now = c.give-served in
+    let meaning = g.S.Scheme.meaning in
+    let memory = words c.args.memory in
+    let now = c.give-answers in
+    let looked = c.look-heap in
     let v = view {S = g.row.S.Denot} words c.loop-index.served.heap in
     let w = view {S = g.row.S.Denot} words now.result.heap in
+    let so_far = take (c.loop-index.index + 1) c.args.calls.now in
+    let answers = vec_items now.result.answers in
     record {
-      served = one-more g.S.Scheme.meaning c.args.scheme c.loop-index.served.heap.scheme (words c.args.memory) c.args.calls.now c.loop-index.index (vec_items c.loop-index.served.answers) v (vec_items now.result.answers) w inv.scheme c.loop-index-test.true inv.served now.ensures.continues;
-      scheme = now.ensures.scheme ∙ inv.scheme;
+      served = subst (λ (x : View). ServedAs (meaning c.args.scheme) memory so_far answers x) (sym looked.ensures.kept)
+          (one-more meaning c.args.scheme c.loop-index.served.heap.scheme memory c.args.calls.now c.loop-index.index (vec_items c.loop-index.served.answers) v answers w inv.scheme c.loop-index-test.true inv.served now.ensures.continues);
+      scheme = looked.ensures.scheme ∙ now.ensures.scheme ∙ inv.scheme;
       count = omega (arith, now.ensures.len, inv.count);
       room_is = omega (arith, now.ensures.capacity, inv.room_is);
     }
