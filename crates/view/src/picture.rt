@@ -29,11 +29,16 @@ fn letters(header: u32) -> (char, char) {
 }
 
 impl Picture {
+    /// A heap with no object.
+    pub fn blank() -> Picture {
+        Picture {
+            words: [FREE; WORDS as usize],
+        }
+    }
+
     /// The heap with its reachable objects marked.
     pub fn of<M: Memory, S: Scheme>(begun: &Begun<M, S>) -> Picture {
-        let mut picture = Picture {
-            words: [FREE; WORDS as usize],
-        };
+        let mut picture = Picture::blank();
         picture.draw_records(begun);
         picture.draw_classes(begun);
         picture
