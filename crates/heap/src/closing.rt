@@ -19,9 +19,9 @@ impl<M: Memory, S: Scheme> Drawn<M, S> {
     /// The backward update: the heap rests again, packed. Answers the live words. Each reachable object has slid
     /// from where it stood when the collection was begun, with the words that it had then, its references renewed.
     pub fn close(self) -> (Heap<M, S>, u32)
-        ensures closes { Closes (S.Scheme.meaning self.heap.scheme) (view M.Memory.words self.heap) (view M.Memory.words result.0) }
         ensures collected { ClosesCollected (S.Scheme.meaning self.heap.scheme)
             (view M.Memory.words self.heap) (view M.Memory.words result.0) }
+        ensures closes { Closes (S.Scheme.meaning self.heap.scheme) (view M.Memory.words self.heap) (view M.Memory.words result.0) }
         ensures live { result.1 ≡ self.live }
         ensures scheme { result.0.scheme ≡ self.heap.scheme }
     {

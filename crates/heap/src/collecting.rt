@@ -73,9 +73,9 @@ impl<M: Memory, S: Scheme> Heap<M, S> {
     /// Packs the reachable objects, and answers the live words. Each of them slides outward over the garbage on
     /// its side, with all its words. Each reference, in a handle or an object, goes to the object that it went to.
     pub fn collect(&mut self) -> u32
-        ensures meets { Meets M.Memory.words S.Scheme.meaning Collect self.old self.new (Ok (pos result)) }
         ensures collected { LeavesCollected (S.Scheme.meaning self.old.scheme)
             (view M.Memory.words self.old) (view M.Memory.words self.new) }
+        ensures meets { Meets M.Memory.words S.Scheme.meaning Collect self.old self.new (Ok (pos result)) }
     {
         self.pack()
     }

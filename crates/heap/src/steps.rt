@@ -22,9 +22,9 @@ impl<M: Memory, S: Scheme> Heap<M, S> {
 
     /// A whole collection by its steps, the same as `collect`; with the live words.
     pub fn collect_by_steps(self) -> (Self, u32)
-        ensures meets { Meets M.Memory.words S.Scheme.meaning Stepped self result.0 (Ok (pos result.1)) }
         ensures collected { LeavesCollected (S.Scheme.meaning self.scheme)
             (view M.Memory.words self) (view M.Memory.words result.0) }
+        ensures meets { Meets M.Memory.words S.Scheme.meaning Stepped self result.0 (Ok (pos result.1)) }
     {
         self.begin().draw().close()
     }
