@@ -11,7 +11,7 @@ use heap::Heap;
 use memory::Memory;
 use scheme::{Mask, Prefix, Scheme};
 use std::io;
-use twice::{Twice, serve_twice};
+use twice::{Twice, serve_halted, serve_twice};
 
 // The handles of this program: numbers, as the calls of the heap take them.
 const MAP: u32 = 0;
@@ -241,7 +241,9 @@ fn show_twice(rt: &HostRuntime) -> io::Result<()> {
     let refused = over_words.iter().filter(|answer| answer.is_err()).count();
     println!(rt; "  {refused} of the calls are refused")?;
     let agree = over_words == over_bytes;
-    println!(rt; "  all answers but the collections' agree: {agree}")
+    println!(rt; "  all answers but the collections' agree: {agree}")?;
+    let agree = serve_halted(day.as_slice(), rt.alloc())? == over_words;
+    println!(rt; "  halted half-way and gone on with, the same answers: {agree}")
 }
 
 fn main(rt: HostRuntime) -> io::Result<()> {

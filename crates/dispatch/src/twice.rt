@@ -1,11 +1,13 @@
-// A list of calls served twice: over words as it is, and over bytes with collections put in between, which no other call can tell.
-ghost use Rattle.std.specs.Prelude.{◌≡◌, true, IfOk};
+// A list of calls served over words as it is, over bytes with collections put in between, which no other call can tell, and in two parts.
+ghost use Rattle.std.specs.Prelude.{◌≡◌, true, IfOk, replicate};
+ghost use Rattle.scheme.specs.Meaning.{prefix};
+ghost use Rattle.service.specs.Still.{answers_of};
 ghost use Rattle.graph.specs.Runs.{is_collection, others, to_others};
 
 use graph::{Call, Outcome};
 use scheme::Prefix;
-use service::{Served, serve_both};
-use std::alloc::{AllocError, Global};
+use service::{Served, serve, serve_both};
+use std::alloc::{AllocError, AllocFailed, Global};
 
 /// What the calls that are no collections were answered.
 #[derive(Drop)]
@@ -87,4 +89,27 @@ pub fn serve_twice(calls: &[Call], alloc: Global) -> Result<Twice, AllocError>
         over_words: told_to_others(calls, answers.as_slice(), alloc)?,
         over_bytes: told_to_others(packed.as_slice(), other_answers.as_slice(), alloc)?,
     })
+}
+
+/// Serves the calls over words in two parts, with the heap halted in between: they are answered as one list.
+pub fn serve_halted(calls: &[Call], alloc: Global) -> Result<Vec<Outcome>, AllocError>
+    ensures { IfOk result (λ told. told.items ≡ answers_of prefix (replicate 48 9) calls.now) }
+{
+    let mut words = [9u32; 48];
+    let (morning, evening) = calls.split_at(calls.len() / 2);
+    let halted = serve(&mut words[..], Prefix, morning, alloc)?;
+    match halted.go_on(evening) {
+        Ok(Served { answers, heap }) => {
+            let (_, _) = heap.into_parts();
+            Ok(answers)
+        }
+        Err(
+            AllocFailed {
+                value: Served { answers: _, heap },
+            },
+        ) => {
+            let (_, _) = heap.into_parts();
+            Err(AllocError)
+        }
+    }
 }

@@ -18,7 +18,7 @@ use Rattle.heap.specs.Effects.{View}
 use Rattle.heap.specs.Views.{Stands}
 use Rattle.service.specs.Course.{Steps, Continues}
 use Rattle.service.specs.Moments.{IsPacked}
-use Rattle.service.specs.Still.{heap_words, new_heap, graph_of, HeapAfter, ServedAs, AsOneList, EndsCollected, Alike, Unnoticed}
+use Rattle.service.specs.Still.{heap_words, new_heap, graph_of, HeapAfter, ServedAs, Shown, AsOneList, EndsCollected, Alike, Unnoticed}
 use Rattle.service.proofs.Steps.{steps-on}
 use Rattle.service.proofs.Moments.{state_at, at-push, heap-after, ends, answers-are, moment-at}
 
@@ -126,3 +126,13 @@ one-more meaning scheme here memory calls i os v ps w same lt was more =
     let call : Call = get_or calls i (Num 0 (pos 0)) in
     subst (λ (cs : List Call). ServedAs m memory cs ps w) (sym (take_more calls i (Num 0 (pos 0)) lt))
     (as-one-list m v os (call ∷ []) ps w (subst (λ s. Continues (meaning s) v os (call ∷ []) ps w) same more) memory (take i calls) [] was)
+
+-- as an onlooker is shown it
+pub shown-more : {S : Type 0} (meaning : S → Meaning) (scheme here next : S) (memory : List ℕ) (calls : List Call) (i : ℕ) (os : List Outcome) (v : View) (ps told : List Outcome) (w : View) → here ≡ scheme → next ≡ here → told ≡ ps → i < length calls
+    → ServedAs (meaning scheme) memory (take i calls) os v → Continues (meaning here) v os (get_or calls i (Num 0 (pos 0)) ∷ []) ps w → Shown (meaning next) (take (i + 1) calls) told w
+shown-more meaning scheme here next memory calls i os v ps told w same kept e lt was more =
+    record {
+      memory = memory;
+      served = subst (λ s. ServedAs (meaning s) memory (take (i + 1) calls) told w) (sym (kept ∙ same))
+          (subst (λ (qs : List Outcome). ServedAs (meaning scheme) memory (take (i + 1) calls) qs w) (sym e) (one-more meaning scheme here memory calls i os v ps w same lt was more));
+    }

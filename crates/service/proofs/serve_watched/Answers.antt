@@ -1,29 +1,15 @@
-use Rattle.std.proofs.Common.{◌+◌, List, take, vec_items, sym, ◌∙◌, subst, arith}
-use Rattle.graph.specs.Step.{Outcome}
+use Rattle.std.proofs.Common.{◌+◌, take, vec_items, sym, ◌∙◌, subst, arith}
 use Rattle.heap.specs.Effects.{View}
 use Rattle.heap.specs.Views.{view}
 use Rattle.service.specs.Still.{ServedAs}
-use Rattle.service.proofs.Laws.{one-more}
+use Rattle.service.proofs.Laws.{one-more, shown-more}
 use Rattle.service.proofs.serve_watched.Goals as goal
 
 pub look-heap-requires : goal.look-heap-requires
 look-heap-requires g c =
     let inv = c.loop-index.invariant in
-    let words = g.M.Memory.words in
-    let meaning = g.S.Scheme.meaning in
-    let memory = words c.args.memory in
-    let now = c.give-answers in
-    let v = view {S = g.row.S.Denot} words c.loop-index.served.heap in
-    let w = view {S = g.row.S.Denot} words now.result.heap in
-    let so_far = take (c.loop-index.index + 1) c.args.calls.now in
-    let served = one-more meaning c.args.scheme c.loop-index.served.heap.scheme memory c.args.calls.now c.loop-index.index (vec_items c.loop-index.served.answers) v (vec_items now.result.answers) w inv.scheme c.loop-index-test.true inv.served now.ensures.continues in
-    record {
-      shown = record {
-        memory = memory;
-        served = subst (λ s. ServedAs (meaning s) memory so_far c.as_slice.result.now w) (sym (now.ensures.scheme ∙ inv.scheme))
-            (subst (λ (os : List Outcome). ServedAs (meaning c.args.scheme) memory so_far os w) (sym c.as_slice.ensures.value) served);
-      };
-    }
+    let now = c.give-answers.ensures in
+    record { shown = search (shown-more g.S.Scheme.meaning, inv.scheme, now.scheme, c.as_slice.ensures.value, c.loop-index-test.true, inv.served, now.continues) }
 
 pub loop-index-preserved : goal.loop-index-preserved
 loop-index-preserved g c =
