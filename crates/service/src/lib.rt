@@ -143,7 +143,8 @@ pub trait Onlooker<M: Memory, S: Scheme> {
         ensures scheme { result.scheme ≡ heap.scheme };
 }
 
-/// Gives a list of calls to a new heap, as `serve` does, and shows the heap after each.
+/// Gives a list of calls to a new heap, as `serve` does, and shows an onlooker the heap after each.
+/// Fails only where there is no memory for the answers, before a heap is made.
 pub fn serve_watched<M: Memory + Drop, S: Scheme + Drop, O: Onlooker<M, S>>(
     memory: M,
     scheme: S,
