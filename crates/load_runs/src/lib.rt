@@ -3,7 +3,10 @@
 
 #[cfg(test)]
 mod tests {
+    use faults::LONGEST_INPUT;
+    use input::answer;
     use runner::answer_load;
+    use std::io::{self, Read};
     use std::process::Abort;
     use std::test::Fail;
 
@@ -76,5 +79,59 @@ mod tests {
             "call a b c d\nmap 0 1 31 31\nlayout 1 3 0 -\nrecord 2 1 - -\nmap 5 0 2 31\nclear 0 - - -\nclear 1 - - -\nclear 2 - - -\ncollect - - - -\n",
             "2 ok 0 0\n3 ok 0 0\n4 ok 0 0\n5 ok 0 0\n6 ok 0 0\n7 ok 0 0\n8 ok 0 0\n9 ok 19 0\n",
         )
+    }
+
+    // What is written for an input, from a reader to a writer.
+    fn told(rt: &impl AllocGlobal, input: &[u8]) -> Result<Vec<u8>, Fail> {
+        let mut output = Vec::new(rt.alloc());
+        answer(input, &mut output, rt.alloc())?;
+        Ok(output)
+    }
+
+    // The longest input is a load, whose last three lines are empty; with a byte more it is none.
+    #[test]
+    fn longest_input(rt: HostRuntime) -> Result<(), Fail> {
+        let calls = "collect - - - -\n".repeat(rt.alloc(), 4095)?;
+        let input = format!(in rt.alloc(); "call a b c d\n{calls}\n\n\n\n")?;
+        let bytes = input.as_bytes();
+        assert_eq!(rt; bytes.len(), LONGEST_INPUT + 1);
+        let fault = told(&rt, bytes)?;
+        assert_eq!(rt;
+            str::from_utf8(fault.as_slice()),
+            Ok("line state number at\n0 no 40 0\n")
+        );
+        let longest = bytes.get(..LONGEST_INPUT).ok_or("too short")?;
+        let answers = told(&rt, longest)?;
+        let last = b"\n4096 ok 0 0\n4097 no 42 0\n4098 no 42 0\n4099 no 42 0\n";
+        assert!(rt; answers.as_slice().ends_with(last));
+        Ok(())
+    }
+
+    // Gives its bytes, and then an error in place of their end.
+    #[derive(Drop)]
+    struct Breaking<'a> {
+        bytes: &'a [u8],
+    }
+
+    impl<'a> Read for Breaking<'a> {
+        fn read(&mut self, buf: &mut [u8]) -> io::Result<usize> {
+            if self.bytes.is_empty() {
+                return Err(io::Error::from(io::ErrorKind::BrokenPipe));
+            }
+            self.bytes.read(buf)
+        }
+    }
+
+    // Of an input that breaks off nothing is told, though what was read of it is a load.
+    #[test]
+    fn broken_input(rt: HostRuntime) -> Result<(), Fail> {
+        let reader = Breaking {
+            bytes: b"call a b c d\nfill - - - -\n",
+        };
+        let mut output = Vec::new(rt.alloc());
+        let answered = answer(reader, &mut output, rt.alloc());
+        assert!(rt; answered.is_err_and(|e| e.kind() == io::ErrorKind::BrokenPipe));
+        assert!(rt; output.is_empty());
+        Ok(())
     }
 }

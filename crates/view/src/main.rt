@@ -80,7 +80,7 @@ fn draw_lines(rt: &HostRuntime, columns: &Columns, text: &[u8]) -> io::Result<()
 
 fn main(rt: HostRuntime) -> io::Result<()> {
     println!(rt; "R a live record, L a layout, M a map, x garbage, . a free word")?;
-    let input = read_load(&rt)?;
+    let input = read_load(rt.stdin(), rt.alloc())?;
     match open_load(input.as_slice()) {
         Ok(opened) => draw_lines(&rt, &opened.columns, opened.rest),
         Err(fault) => {
