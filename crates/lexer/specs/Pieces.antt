@@ -25,6 +25,11 @@ abbrev pub Full : List (List ℕ) → Type 0
 Full [] = Unit {0}
 Full (v ∷ vs) = (0 < length v) × Full vs
 
+-- values left before and after one is asked for and none is given: there was none, or the first was empty and only it is taken off
+abbrev pub PassedOver : (before after : List (List ℕ)) → Type 0
+PassedOver [] after = after ≡ []
+PassedOver (v ∷ vs) after = (v ≡ []) × (after ≡ vs)
+
 -- a line of at most 80 bytes that is five values
 abbrev pub Shaped : List ℕ → Type 0
 Shaped line = (length line ≤ 80) × (length (pieces line) ≡ 5) × Full (pieces line)

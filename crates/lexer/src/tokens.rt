@@ -1,6 +1,6 @@
 // The five values of a line, each a token that borrows its part of the line.
 ghost use Rattle.std.specs.Prelude.{◌≡◌, ℕ, ◌<◌, ◌≤◌, List, [], ◌∷◌, ◌++◌, map, length, MatchResult, ◌≢◌, slice_index_or};
-ghost use Rattle.lexer.specs.Pieces.{pieces, Full, Shaped};
+ghost use Rattle.lexer.specs.Pieces.{pieces, PassedOver, Shaped};
 ghost use Rattle.lexer.specs.Tokens.{Lexeme, word, lexeme, spelt, said, left_in, left, held};
 ghost use Rattle.faults.specs.declared.TextFault.TheVariants.{NoShape};
 
@@ -58,9 +58,9 @@ impl<'a> Lexer<'a> {
         Lexer { rest: Some(line) }
     }
 
-    /// The next value, which must be there and not be empty.
+    /// The next value, which must be there and not be empty. An empty one is passed over: those behind it are left. Where none is left, none will be.
     pub fn value(&mut self) -> Result<Token<'a>, TextFault>
-        ensures { MatchResult result (λ t. (left self.old ≡ spelt (said t) ∷ left self.new) × (0 < length (spelt (said t))) × (said t ≡ lexeme (spelt (said t)))) (λ f. (f ≡ NoShape) × (1 ≤ length (left self.old) → Full (left self.old) → ⊥)) }
+        ensures { MatchResult result (λ t. (left self.old ≡ spelt (said t) ∷ left self.new) × (0 < length (spelt (said t))) × (said t ≡ lexeme (spelt (said t)))) (λ f. (f ≡ NoShape) × PassedOver (left self.old) (left self.new)) }
     {
         let (value, after) = first_value(self.rest.ok_or(TextFault::NoShape)?);
         self.rest = after;
