@@ -1,5 +1,5 @@
 -- A byte more than a load may have is enough of an input.
-use Rattle.std.proofs.Common.{◌≡◌, ℕ, ◌<◌, ◌≤◌, ◌⊎◌, List, [], ◌∷◌, ◌++◌, length, Some, None, Ok, Err, Option, Result, IfSome, OnOk, take, inl, inr, sym, ap, ◌∙◌, subst, arith}
+use Rattle.std.proofs.Common.{◌≡◌, ℕ, ◌<◌, ◌≤◌, ◌⊎◌, List, [], ◌∷◌, ◌++◌, length, Some, None, Ok, Err, Option, Result, IfSome, OnOk, take, inl, inr, sym, refl, ap, ◌∙◌, subst, arith}
 use Rattle.std.proofs.lemmas.Bool.{lt-ltb, cond-true, cases_lt}
 use Rattle.std.proofs.lemmas.List.{take_all, length-take-le}
 use Rattle.std.specs.Prelude.{option_map}
@@ -16,7 +16,9 @@ use Rattle.lexer.specs.Pieces.{lines}
 use Rattle.load.specs.Names.{columns_in}
 use Rattle.load.specs.Steps.{and_then}
 use Rattle.report.specs.Faults.{of_text, on_line}
+use Rattle.report.specs.Laws.{Shows}
 use Rattle.report.specs.Reports.{reported, output}
+use Rattle.report.proofs.Laws.{keeps-laws}
 use Rattle.report.specs.Loads.{first, behind, told, loaded}
 
 -- what every input that is too long tells
@@ -55,3 +57,11 @@ all_written (Ok x) None read text old new begins told written = tt
 all_written (Ok x) (Some xs) read text old new begins told written =
     subst (Appends old new) (told ∙ ap (λ ys. output (loaded prefix 64 ys)) begins ∙ ap output (taken prefix 64 xs)) written
 all_written (Err e) known read text old new begins told written = tt
+
+-- and it shows the reports of a load that keeps the laws
+pub lawful : {X E : Type 0} (r : Result X E) (known old new : Option (List ℕ)) → OnOk r (IfSome known (λ xs. Appends old new (output (loaded prefix 64 xs))))
+    → OnOk r (IfSome known (λ xs. (text : List ℕ) × Shows prefix 64 xs text × Appends old new text))
+lawful (Ok x) None old new written = tt
+lawful (Ok x) (Some xs) old new written =
+    (output (loaded prefix 64 xs), record { reports = loaded prefix 64 xs; shown = refl; laws = keeps-laws prefix 64 xs (loaded prefix 64 xs) refl }, written)
+lawful (Err e) known old new written = tt

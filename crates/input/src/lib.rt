@@ -1,9 +1,10 @@
 // A load, from the reader that has its input to the writer that takes its output.
 #![tactic(auto)]
 
-ghost use Rattle.std.specs.Prelude.{◌≡◌, IfOk, IfSome, OnOk, take};
+ghost use Rattle.std.specs.Prelude.{◌≡◌, ℕ, List, IfOk, IfSome, OnOk, take};
 ghost use Rattle.std.specs.Io.KnownBytes.{Appends};
 ghost use Rattle.scheme.specs.Meaning.{prefix};
+ghost use Rattle.report.specs.Laws.{Shows};
 ghost use Rattle.report.specs.Loads.{loaded};
 ghost use Rattle.report.specs.Reports.{output};
 
@@ -23,9 +24,14 @@ pub fn read_load<R: Read + Drop>(reader: R, alloc: Global) -> io::Result<Vec<u8>
     Ok(input)
 }
 
-/// Reads a load, runs it over an empty heap of 64 words, and writes the whole output.
+/// Reads a load, runs it over an empty heap of 64 words, and writes the whole output. It shows one
+/// report for each call line, or one of fault 40 or 41 alone, and neither a line with a fault nor a
+/// collect line changes what is told of another.
 pub fn answer<R: Read + Drop, W: Write>(reader: R, writer: &mut W, alloc: Global) -> io::Result<()>
-    ensures { OnOk result (IfSome (R.remaining reader) (λ xs. Appends (W.contents writer.old) (W.contents writer.new) (output (loaded prefix 64 xs)))) }
+    ensures text { OnOk result (IfSome (R.remaining reader) (λ xs.
+        Appends (W.contents writer.old) (W.contents writer.new) (output (loaded prefix 64 xs)))) }
+    ensures laws { OnOk result (IfSome (R.remaining reader) (λ xs. (text : List ℕ)
+        × Shows prefix 64 xs text × Appends (W.contents writer.old) (W.contents writer.new) text)) }
 {
     let input = read_load(reader, alloc)?;
     let output = answer_load(input.as_slice(), alloc)?;
