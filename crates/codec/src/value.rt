@@ -65,7 +65,8 @@ pub fn to_class(place: u32) -> u32
     place.wrapping_mul(4).wrapping_add(3)
 }
 
-/// The word that refers to the object with that header at a place: the header's kind gives the tag.
+/// The reference to an object, by its place and its header: the tag is that of the kind which the
+/// header tells.
 pub fn to_object(place: u32, header: u32) -> u32
     ensures { place < 1_073_741_824 → result ≡ place * 4 + kind_tag (header / 4 % 4) }
 {

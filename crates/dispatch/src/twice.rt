@@ -1,5 +1,5 @@
 // A list of calls served over words as it is, over bytes with collections put in between, which no other call can tell, and in two parts.
-ghost use Rattle.std.specs.Prelude.{◌≡◌, true, IfOk, replicate};
+ghost use Rattle.std.specs.Prelude.{◌≡◌, ◌*◌, true, length, IfOk, replicate};
 ghost use Rattle.scheme.specs.Meaning.{prefix};
 ghost use Rattle.service.specs.Still.{answers_of};
 ghost use Rattle.graph.specs.Runs.{is_collection, others, to_others};
@@ -35,7 +35,8 @@ fn collection(turn: usize) -> Call
 
 /// The calls with a collection behind each, of the three kinds in turn.
 fn with_collections(calls: &[Call], alloc: Global) -> Result<Vec<Call>, AllocError>
-    ensures { IfOk result (λ all. others all.items ≡ others calls.now) }
+    ensures same { IfOk result (λ all. others all.items ≡ others calls.now) }
+    ensures many { IfOk result (λ all. length all.items ≡ 2 * length calls.now) }
 {
     let mut all = Vec::new(alloc);
     for call in calls {
@@ -64,7 +65,9 @@ fn told_to_others(
 
 /// Serves the calls over words as they are, and over bytes with collections put in between: all of them are answered the same.
 pub fn serve_twice(calls: &[Call], alloc: Global) -> Result<Twice, AllocError>
-    ensures { IfOk result (λ twice. twice.over_words.items ≡ twice.over_bytes.items) }
+    ensures told { IfOk result (λ twice. twice.over_words.items
+        ≡ to_others calls.now (answers_of prefix (replicate 48 9) calls.now)) }
+    ensures same { IfOk result (λ twice. twice.over_words.items ≡ twice.over_bytes.items) }
 {
     let mut words = [9u32; 48];
     let mut bytes = [9u8; 195];

@@ -9,7 +9,7 @@ use Rattle.graph.specs.Numbers.{refusal_number, refusal_position}
 use Rattle.graph.specs.Words.{number_word}
 use Rattle.graph.specs.Advance.{State, start, advances, memory_words, handles_words}
 
--- an outcome as it is printed: ok or no, the answer or the refusal's number, the position
+-- an outcome as it is printed: state, number, position
 pub data Line : Type 0 where
   ok : ℤ → ℕ → Line
   no : ℕ → ℕ → Line

@@ -2,7 +2,7 @@
 use Rattle.std.specs.Prelude.{◌≡◌, ℕ, ◌+◌, ◌*◌, ◌<◌, ◌≤◌}
 use Rattle.graph.specs.Step.{percent}
 
--- p is the whole number nearest to live × 100 / W, a half upward: p − ½ ≤ live × 100 / W < p + ½, told without a division
+-- of all whole numbers p is nearest to the live words in a hundred of W, and of two that are equally near it is the larger
 pub record NearestPercent (live W p : ℕ) : Type 0 where
   pub not_above : 2 * (p * W) ≤ 200 * live + W
   pub not_below : 200 * live < 2 * (p * W) + W

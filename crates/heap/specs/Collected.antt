@@ -65,8 +65,8 @@ pub record Collected (W : ℕ) (g : Graph) (stood : List Bool) (before after : V
   pub limit : after.limit ≡ W
   -- a reachable object stood before
   pub kept : (q : ℕ) → Reachable g q → slice_index_or stood q false ≡ true
-  -- a record's new place is the sum of the sizes of the reachable records that stood left of it, a class's new
-  -- end is W less the sizes of the reachable classes that stood right of it, and each side keeps its order
+  -- left of a record stand just the words of the reachable records that stood left of it, right of a class
+  -- just those of the reachable classes that stood right of it, and no two of a side change places
   pub slides : Slides W g stood (reachable g)
   -- and it stands at its new place with all its words
   pub objects : (q : ℕ) → Reachable g q → Slid W g stood before after q

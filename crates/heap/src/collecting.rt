@@ -83,9 +83,9 @@ impl<M: Memory, S: Scheme> Heap<M, S> {
     /// How full the heap is: its live words in a hundred of all, to the nearest whole number, from a half upward.
     /// Of no words it is 0.
     pub fn fill(&mut self) -> u32
-        ensures meets { Meets M.Memory.words S.Scheme.meaning Fill self.old self.new (Ok (pos result)) }
         ensures nearest { TellsFill (S.Scheme.meaning self.old.scheme)
             (view M.Memory.words self.old) result }
+        ensures meets { Meets M.Memory.words S.Scheme.meaning Fill self.old self.new (Ok (pos result)) }
     {
         let live = self.weigh();
         percent(live, self.bounds.limit)

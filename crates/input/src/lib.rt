@@ -28,10 +28,10 @@ pub fn read_load<R: Read + Drop>(reader: R, alloc: Global) -> io::Result<Vec<u8>
 /// report for each call line, or one of fault 40 or 41 alone, and neither a line with a fault nor a
 /// collect line changes what is told of another.
 pub fn answer<R: Read + Drop, W: Write>(reader: R, writer: &mut W, alloc: Global) -> io::Result<()>
-    ensures text { OnOk result (IfSome (R.remaining reader) (λ xs.
-        Appends (W.contents writer.old) (W.contents writer.new) (output (loaded prefix 64 xs)))) }
     ensures laws { OnOk result (IfSome (R.remaining reader) (λ xs. (text : List ℕ)
         × Shows prefix 64 xs text × Appends (W.contents writer.old) (W.contents writer.new) text)) }
+    ensures text { OnOk result (IfSome (R.remaining reader) (λ xs.
+        Appends (W.contents writer.old) (W.contents writer.new) (output (loaded prefix 64 xs)))) }
 {
     let input = read_load(reader, alloc)?;
     let output = answer_load(input.as_slice(), alloc)?;

@@ -35,8 +35,8 @@ pub fn answers<M: Memory + Drop, S: Scheme + Drop>(
     calls: &[Call],
     alloc: Global,
 ) -> Result<Vec<Outcome>, AllocError>
-    ensures told { IfOk result (λ v. v.items ≡ answers_of (S.Scheme.meaning scheme) (M.Memory.words memory) calls.now) }
     ensures stays { IfOk result (λ v. StaysStored (S.Scheme.meaning scheme) (M.Memory.words memory) calls.now v.items) }
+    ensures told { IfOk result (λ v. v.items ≡ answers_of (S.Scheme.meaning scheme) (M.Memory.words memory) calls.now) }
     ensures by_prefix { S.Scheme.meaning scheme ≡ prefix → length (M.Memory.words memory) ≡ 32 → calls.now ≡ stored → IfOk result (λ v. v.items ≡ read_back) }
     ensures by_mask { S.Scheme.meaning scheme ≡ mask → length (M.Memory.words memory) ≡ 32 → calls.now ≡ stored → IfOk result (λ v. v.items ≡ read_back) }
 {

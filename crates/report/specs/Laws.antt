@@ -19,7 +19,7 @@ use Rattle.report.specs.declared.reports.Stop.{Stop}
 use Rattle.report.specs.Loads.{first, behind}
 use Rattle.report.specs.Reports.{output}
 
--- the input is read: it is not too long, and its first line is the five names, each at its place
+-- the input is read: it is not too long, and has a name line in front
 pub record IsRead (names : Columns) (input : List ℕ) : Type 0 where
   pub short : length input ≤ 65536
   pub named : Named names (first (lines input))
@@ -60,7 +60,7 @@ told_outcome (Err r) = Err (record { number = pos (refusal_number r); at = refus
 pub record Tells (m : Meaning) (W : ℕ) (input : List ℕ) (reports : List Report) : Type 0 where
   -- fault 40 is all that is told of an input that is too long, at line 0
   pub too_long : 65536 < length input → reports ≡ record { line = 0; outcome = told_fault TooLong } ∷ []
-  -- fault 41 is all that is told of any other input whose first line is not the five names, at line 1
+  -- fault 41 is all that is told of any other input that has no name line in front, at line 1
   pub no_names :
       length input ≤ 65536 → ((names : Columns) → Named names (first (lines input)) → ⊥)
       → reports ≡ record { line = 1; outcome = told_fault NoNames } ∷ []

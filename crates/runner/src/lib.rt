@@ -23,8 +23,7 @@ use scheme::{Prefix, Scheme};
 use std::alloc::{AllocError, Global};
 
 /// The call of a line, given to the heap.
-// Heap and columns are no struct: who draws the heap between two lines moves it, and keeps the columns.
-pub fn give_line<M: Memory, S: Scheme>(
+fn give_line<M: Memory, S: Scheme>(
     heap: &mut Heap<M, S>,
     columns: &Columns,
     line: &[u8],
@@ -76,8 +75,8 @@ pub fn run_load<M: Memory + Drop, S: Scheme + Drop>(
     input: &[u8],
     alloc: Global,
 ) -> Result<Vec<Report>, AllocError>
-    ensures reports { IfOk result (λ v. v.items ≡ loaded (S.Scheme.meaning scheme) (heap_words (M.Memory.words memory)) input.now) }
     ensures laws { IfOk result (λ v. KeepsLaws (S.Scheme.meaning scheme) (heap_words (M.Memory.words memory)) input.now v.items) }
+    ensures reports { IfOk result (λ v. v.items ≡ loaded (S.Scheme.meaning scheme) (heap_words (M.Memory.words memory)) input.now) }
 {
     let mut reports = Vec::new(alloc);
     match open_load(input) {
@@ -94,8 +93,8 @@ pub fn run_load<M: Memory + Drop, S: Scheme + Drop>(
 
 /// The whole output for an input, from an empty heap of 64 words on, by the scheme PREFIX.
 pub fn answer_load(input: &[u8], alloc: Global) -> Result<String, AllocError>
-    ensures text { IfOk result (λ s. string_bytes s ≡ output (loaded prefix 64 input.now)) }
     ensures laws { IfOk result (λ s. Shows prefix 64 input.now (string_bytes s)) }
+    ensures text { IfOk result (λ s. string_bytes s ≡ output (loaded prefix 64 input.now)) }
 {
     let mut words = [0u32; 64];
     let reports = run_load(&mut words[..], Prefix, input, alloc)?;

@@ -1,10 +1,10 @@
 -- Lists of calls over new heaps.
-use Rattle.std.proofs.Common.{◌≡◌, ℕ, ◌+◌, ◌-◌, ◌<◌, true, List, [], ◌∷◌, ◌++◌, length, get_or, pos, take, drop, replicate, sym, refl, ap, ◌∙◌, subst, ap₂, inl, inr, length-append, length-drop, append-nil, arith}
-use Rattle.std.proofs.lemmas.Bool.{cases_Bool, cond-true, cond-false, false≢true}
+use Rattle.std.proofs.Common.{◌≡◌, ℕ, ◌+◌, ◌-◌, ◌<◌, List, [], ◌∷◌, ◌++◌, length, get_or, pos, take, drop, replicate, sym, refl, ap, ◌∙◌, subst, ap₂, inl, inr, length-append, length-drop, append-nil, arith}
+use Rattle.std.proofs.lemmas.Bool.{cases_Bool, cond-true, cond-false}
 use Rattle.std.proofs.lemmas.List.{append_assoc, take_more, take_at, drop_at, length-replicate}
 use Rattle.scheme.specs.Meaning.{Meaning}
 use Rattle.graph.specs.declared.Call.{Call}
-use Rattle.graph.specs.declared.Call.TheVariants.{Num, Collect, Stepped, GivenUp}
+use Rattle.graph.specs.declared.Call.TheVariants.{Num}
 use Rattle.graph.specs.Step.{Outcome, step, run}
 use Rattle.graph.specs.Graph.{Graph, bare}
 use Rattle.graph.specs.Reach.{reachable}
@@ -13,7 +13,7 @@ use Rattle.graph.specs.Advance.{State, memory_words, handles_words}
 use Rattle.graph.specs.Rests.{state}
 use Rattle.graph.specs.Runs.{is_collection, others, to_others}
 use Rattle.graph.proofs.Stays.{stays-sound}
-use Rattle.graph.proofs.Runs.{packs-state, others-agree}
+use Rattle.graph.proofs.Runs.{still, packs-state, others-agree}
 use Rattle.heap.specs.Effects.{View}
 use Rattle.heap.specs.Views.{Stands}
 use Rattle.service.specs.Course.{Steps, Continues}
@@ -63,13 +63,6 @@ as-one-list m heap at_hand calls answers last on memory front earlier was =
     subst (λ (os : List Outcome). ServedAs m memory (front ++ calls) os last) (append_assoc earlier at_hand on.new ∙ ap (λ (os : List Outcome). earlier ++ os) (sym on.behind))
     (served m memory (front ++ calls) (was.heaps ++ on.heaps) ((earlier ++ at_hand) ++ on.new) last
     (steps-on m (new_heap memory) front was.heaps (earlier ++ at_hand) heap calls on.heaps on.new last was.steps on.steps))
-
--- no collection changes the still graph
-still : (m : Meaning) (W : ℕ) (c : Call) (g : Graph) → is_collection c ≡ true → (step m W c g).1 ≡ g
-still m W Collect g e = refl
-still m W Stepped g e = refl
-still m W GivenUp g e = refl
-still m W c g e = absurd (false≢true e)
 
 graph-others : (m : Meaning) (W : ℕ) (cs : List Call) (g : Graph) → (run m W cs g).1 ≡ (run m W (others cs) g).1
 graph-others m W [] g = refl

@@ -154,6 +154,8 @@ pub fn serve_watched<M: Memory + Drop, S: Scheme + Drop, O: Onlooker<M, S>>(
 ) -> Result<Served<M, S>, AllocError>
     ensures served { IfOk result (λ s. ServedAs (S.Scheme.meaning scheme) (M.Memory.words memory)
         calls.now s.answers.items (view M.Memory.words s.heap)) }
+    ensures unnoticed { IfOk result (λ s. Unnoticed (S.Scheme.meaning scheme) (M.Memory.words memory)
+        calls.now s.answers.items (view M.Memory.words s.heap)) }
     ensures scheme { IfOk result (λ s. s.heap.scheme ≡ scheme) }
 {
     let answers = Vec::with_capacity(alloc, calls.len())?;

@@ -1,8 +1,9 @@
-use Rattle.std.proofs.Common.{◌+◌, take, vec_items, sym, ◌∙◌, subst, arith}
+use Rattle.std.proofs.Common.{◌≡◌, ◌+◌, take, vec_items, sym, ◌∙◌, subst, arith}
+use Rattle.std.proofs.lemmas.List.{take_all}
 use Rattle.heap.specs.Effects.{View}
 use Rattle.heap.specs.Views.{view}
 use Rattle.service.specs.Still.{ServedAs}
-use Rattle.service.proofs.Laws.{one-more, shown-more}
+use Rattle.service.proofs.Laws.{one-more, shown-more, unnoticed}
 use Rattle.service.proofs.serve_watched.Goals as goal
 
 pub look-heap-requires : goal.look-heap-requires
@@ -30,3 +31,13 @@ loop-index-preserved g c =
       count = omega (arith, now.ensures.len, inv.count);
       room_is = omega (arith, now.ensures.capacity, inv.room_is);
     }
+
+pub returns-clause-unnoticed : goal.returns-clause-unnoticed
+returns-clause-unnoticed g c =
+    let calls = c.args.calls.now in
+    let meaning = g.S.Scheme.meaning c.args.scheme in
+    let memory = g.M.Memory.words c.args.memory in
+    let answers = vec_items c.loop-index.served.answers in
+    let last = view {S = g.row.S.Denot} g.M.Memory.words c.loop-index.served.heap in
+    let all : take c.loop-index.index calls ≡ calls = take_all c.loop-index.index calls (omega (arith, c.loop-index-test.false)) in
+    unnoticed meaning memory calls answers last (subst (λ cs. ServedAs meaning memory cs answers last) all c.loop-index.invariant.served)

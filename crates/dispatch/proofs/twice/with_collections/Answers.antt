@@ -1,4 +1,4 @@
-use Rattle.std.proofs.Common.{◌≡◌, ◌+◌, List, [], ◌∷◌, ◌++◌, get_or, take, pos, vec_items, is_ok, sym, ap, ◌∙◌}
+use Rattle.std.proofs.Common.{◌≡◌, ℕ, ◌+◌, List, [], ◌∷◌, ◌++◌, get_or, take, pos, vec_items, is_ok, sym, ap, ◌∙◌, length, length-append, arith}
 use Rattle.std.proofs.ResultArms.{chosen}
 use Rattle.std.proofs.lemmas.List.{take_more}
 use Rattle.graph.specs.declared.Call.{Call}
@@ -17,6 +17,7 @@ loop-call-preserved c =
     let more : take (i + 1) calls ≡ take i calls ++ call ∷ [] = take_more calls i (Num 0 (pos 0)) c.loop-call-test.true in
     let first : vec_items c.push.new.self ≡ so_far ++ (call ∷ []) = chosen _ _ _ _ c.push.ensures.items (ap is_ok c.in_ok-push.was) in
     let both : vec_items c.push-in-loop-call.new.self ≡ vec_items c.push.new.self ++ (between ∷ []) = chosen _ _ _ _ c.push-in-loop-call.ensures.items (ap is_ok c.in_ok-push-2.was) in
-    ap others (both ∙ ap (λ (cs : List Call). cs ++ (between ∷ [])) first)
-    ∙ with_collection so_far (take i calls) call between c.loop-call.invariant c.collection.ensures
-    ∙ ap others (sym more)
+    let all : vec_items c.push-in-loop-call.new.self ≡ (so_far ++ (call ∷ [])) ++ (between ∷ []) = both ∙ ap (λ (cs : List Call). cs ++ (between ∷ [])) first in (
+      ap others all ∙ with_collection so_far (take i calls) call between c.loop-call.invariant.0 c.collection.ensures ∙ ap others (sym more),
+      omega (arith, ap {B = ℕ} length all, length-append (so_far ++ (call ∷ [])) (between ∷ []), length-append so_far (call ∷ []), c.loop-call.invariant.1),
+    )
