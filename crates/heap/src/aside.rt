@@ -1,6 +1,6 @@
 // A heap put aside: between two calls that come from outside it is its memory, its scheme and a few words.
 ghost use Rattle.std.specs.Prelude.{◌≡◌};
-ghost use Rattle.heap.specs.Asides.{heap_of, Resumes};
+ghost use Rattle.heap.specs.Asides.{heap_of, Resumes, Suspends};
 
 use crate::{Begun, Drawn, Heap};
 use memory::Memory;
@@ -59,9 +59,9 @@ impl<M: Memory, S: Scheme> Phase<M, S> {
         }
     }
 
-    /// Puts the heap aside: what comes back of it with `resume` is as it was, in the same phase.
+    /// Puts the heap aside: what comes back of it with `resume` is as it was, in the same phase, which stands there by its number.
     pub fn suspend(self) -> (M, S, Aside)
-        ensures { Resumes result.0 result.1 result.2 self }
+        ensures { Suspends self result.0 result.1 result.2 }
     {
         match self {
             Phase::Resting(heap) => apart(heap, RESTING, 0),
