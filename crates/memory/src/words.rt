@@ -1,10 +1,10 @@
 // A memory over a slice of words.
-ghost use Rattle.std.specs.Prelude.{◌≡◌, ℕ, ◌+◌, ◌≤◌, length, replicate, slice_index};
-ghost use Rattle.memory.specs.Ranges.{shifted};
+ghost use Rattle.std.specs.Prelude.{◌≡◌, ℕ, ◌+◌, ◌<◌, ◌≤◌, length, replicate, slice_index, slice_set};
+ghost use Rattle.memory.specs.Ranges.{shifted, cleared};
 
 use crate::Memory;
 
-/// A word of the slice is a word of the memory.
+/// A word of the slice is a word of the memory. Each call leaves the same slice lent, so who lent it knows its words afterwards.
 impl Memory for &mut [u32] {
     ghost words = { λ m. m.now };
 
@@ -16,7 +16,10 @@ impl Memory for &mut [u32] {
         self.get(place).copied().unwrap_or(0)
     }
 
-    fn write(&mut self, place: usize, word: u32) {
+    fn write(&mut self, place: usize, word: u32)
+        ensures word { self.new.now ≡ slice_set self.old.now place word }
+        ensures same_reference { self.new.ghost_name ≡ self.old.ghost_name }
+    {
         if place < self.len() {
             self[place] = word;
         }
@@ -26,13 +29,22 @@ impl Memory for &mut [u32] {
         self[place]
     }
 
-    fn write_within(&mut self, place: usize, word: u32) {
+    fn write_within(&mut self, place: usize, word: u32)
+        requires { place < length self.old.now }
+        ensures word { self.new.now ≡ slice_set self.old.now place word }
+        ensures same_reference { self.new.ghost_name ≡ self.old.ghost_name }
+    {
         self[place] = word;
     }
 
     // By one test, and the words at once.
     #[inline(always)]
-    fn write_fresh(&mut self, place: usize, first: u32, second: u32, end: usize) {
+    fn write_fresh(&mut self, place: usize, first: u32, second: u32, end: usize)
+        requires { place + 2 ≤ end }
+        ensures length { length self.new.now ≡ length self.old.now }
+        ensures words { (k : ℕ) → slice_index self.new.now k ≡ cleared (slice_set (slice_set self.old.now place first) (place + 1) second) (place + 2) end k }
+        ensures same_reference { self.new.ghost_name ≡ self.old.ghost_name }
+    {
         if end <= self.len() {
             make_fresh(&mut self[place..end], first, second);
         } else {
@@ -44,7 +56,11 @@ impl Memory for &mut [u32] {
 
     // This and `clear` at once: the trait's own bodies go word by word.
     #[inline(always)]
-    fn shift(&mut self, from: usize, to: usize, size: usize) {
+    fn shift(&mut self, from: usize, to: usize, size: usize)
+        ensures length { length self.new.now ≡ length self.old.now }
+        ensures words { (k : ℕ) → slice_index self.new.now k ≡ shifted self.old.now from to size k }
+        ensures same_reference { self.new.ghost_name ≡ self.old.ghost_name }
+    {
         let len = self.len();
         if size <= len && from <= len - size && to <= len - size {
             self.shift_within(from, to, size);
@@ -53,7 +69,13 @@ impl Memory for &mut [u32] {
 
     // Whoever calls it knows the bounds, so the machine code tests none of them.
     #[inline(always)]
-    fn shift_within(&mut self, from: usize, to: usize, size: usize) {
+    fn shift_within(&mut self, from: usize, to: usize, size: usize)
+        requires from_in { from + size ≤ length self.old.now }
+        requires to_in { to + size ≤ length self.old.now }
+        ensures length { length self.new.now ≡ length self.old.now }
+        ensures words { (k : ℕ) → slice_index self.new.now k ≡ shifted self.old.now from to size k }
+        ensures same_reference { self.new.ghost_name ≡ self.old.ghost_name }
+    {
         if to <= from && size <= from - to {
             move_down(&mut self[to..from + size], from - to, size);
         } else if from + size <= to {
@@ -63,7 +85,11 @@ impl Memory for &mut [u32] {
         }
     }
 
-    fn clear(&mut self, from: usize, end: usize) {
+    fn clear(&mut self, from: usize, end: usize)
+        ensures length { length self.new.now ≡ length self.old.now }
+        ensures words { (k : ℕ) → slice_index self.new.now k ≡ cleared self.old.now from end k }
+        ensures same_reference { self.new.ghost_name ≡ self.old.ghost_name }
+    {
         let end = end.min(self.len());
         if from < end {
             self[from..end].fill(0);
