@@ -5,7 +5,7 @@ use Rattle.graph.specs.declared.Call.TheVariants.{Collect}
 use Rattle.graph.specs.Graph.{bare}
 use Rattle.graph.specs.Advance.{State}
 use Rattle.heap.specs.declared.aside.Aside.{Aside}
-use Rattle.heap.specs.Asides.{view_of}
+use Rattle.heap.specs.Asides.{view_of, at_rest, begun, drawn}
 use Rattle.heap.specs.Effects.{View}
 use Rattle.heap.specs.Views.{Stands, Follows}
 use Rattle.heap.specs.Phases.{Begins, Draws, Closes, GivesUp}
@@ -35,10 +35,10 @@ pub record Gives (m : Meaning) (calls : List CallWords) (before after : View) (o
 
 -- Calls from outside on a heap that was put aside: `a` with the words `ws` before, `b` with the words `vs` after.
 
--- 0 is the phase of a resting heap and 1 that of a begun one; any other is that of a drawn one
+-- The phase is read as that of a drawn heap. The functions for C write no other number for it than `drawn`.
 pub record IsDrawn (a : Aside) : Type 0 where
-  pub not_resting : a.phase ≡ 0 → ⊥
-  pub not_begun : a.phase ≡ 1 → ⊥
+  pub not_resting : a.phase ≡ at_rest → ⊥
+  pub not_begun : a.phase ≡ begun → ⊥
 
 -- a call out of turn does nothing
 pub record Untouched (ws : List ℕ) (a : Aside) (vs : List ℕ) (b : Aside) (r : ℤ) : Type 0 where
@@ -48,30 +48,30 @@ pub record Untouched (ws : List ℕ) (a : Aside) (vs : List ℕ) (b : Aside) (r 
 
 -- a whole collection
 pub record Collected (m : Meaning) (ws : List ℕ) (a : Aside) (vs : List ℕ) (b : Aside) (r : ℤ) : Type 0 where
-  pub done : a.phase ≡ 0 → Follows m Collect (view_of ws a) (view_of vs b) (Ok r) × (b.phase ≡ 0)
-  pub refused : (a.phase ≢ 0) → Untouched ws a vs b r
+  pub done : a.phase ≡ at_rest → Follows m Collect (view_of ws a) (view_of vs b) (Ok r) × (b.phase ≡ at_rest)
+  pub refused : (a.phase ≢ at_rest) → Untouched ws a vs b r
 
 -- a list of calls
 pub record Listed (m : Meaning) (calls : List CallWords) (old new : List Answer) (ws : List ℕ) (a : Aside) (vs : List ℕ) (b : Aside) (r : ℤ) : Type 0 where
-  pub done : a.phase ≡ 0 → (given : ℕ) × (r ≡ pos given) × Gives m calls (view_of ws a) (view_of vs b) old new given × (b.phase ≡ 0)
-  pub refused : (a.phase ≢ 0) → Untouched ws a vs b r × (new ≡ old)
+  pub done : a.phase ≡ at_rest → (given : ℕ) × (r ≡ pos given) × Gives m calls (view_of ws a) (view_of vs b) old new given × (b.phase ≡ at_rest)
+  pub refused : (a.phase ≢ at_rest) → Untouched ws a vs b r × (new ≡ old)
 
 -- the steps
 pub record BegunBy (m : Meaning) (ws : List ℕ) (a : Aside) (vs : List ℕ) (b : Aside) (r : ℤ) : Type 0 where
-  pub done : a.phase ≡ 0 → Begins m (view_of ws a) (view_of vs b) b.live × (r ≡ pos b.live) × (b.phase ≡ 1)
-  pub refused : (a.phase ≢ 0) → Untouched ws a vs b r
+  pub done : a.phase ≡ at_rest → Begins m (view_of ws a) (view_of vs b) b.live × (r ≡ pos b.live) × (b.phase ≡ begun)
+  pub refused : (a.phase ≢ at_rest) → Untouched ws a vs b r
 
 pub record DrawnBy (m : Meaning) (ws : List ℕ) (a : Aside) (vs : List ℕ) (b : Aside) (r : ℤ) : Type 0 where
-  pub done : a.phase ≡ 1 → Draws m (view_of ws a) (view_of vs b) × (b.live ≡ a.live) × (r ≡ pos 0) × IsDrawn b
-  pub refused : (a.phase ≢ 1) → Untouched ws a vs b r
+  pub done : a.phase ≡ begun → Draws m (view_of ws a) (view_of vs b) × (b.live ≡ a.live) × (r ≡ pos 0) × (b.phase ≡ drawn)
+  pub refused : (a.phase ≢ begun) → Untouched ws a vs b r
 
 pub record ClosedBy (m : Meaning) (ws : List ℕ) (a : Aside) (vs : List ℕ) (b : Aside) (r : ℤ) : Type 0 where
-  pub done : IsDrawn a → Closes m (view_of ws a) (view_of vs b) × (r ≡ pos a.live) × (b.phase ≡ 0)
+  pub done : IsDrawn a → Closes m (view_of ws a) (view_of vs b) × (r ≡ pos a.live) × (b.phase ≡ at_rest)
   pub refused : (IsDrawn a → ⊥) → Untouched ws a vs b r
 
 pub record GivenUpBy (m : Meaning) (ws : List ℕ) (a : Aside) (vs : List ℕ) (b : Aside) (r : ℤ) : Type 0 where
-  pub done : a.phase ≡ 1 → GivesUp m (view_of ws a) (view_of vs b) × (r ≡ pos 0) × (b.phase ≡ 0)
-  pub refused : (a.phase ≢ 1) → Untouched ws a vs b r
+  pub done : a.phase ≡ begun → GivesUp m (view_of ws a) (view_of vs b) × (r ≡ pos 0) × (b.phase ≡ at_rest)
+  pub refused : (a.phase ≢ begun) → Untouched ws a vs b r
 
 -- a new heap over the words
 pub record Opened (m : Meaning) (ws vs : List ℕ) (b : Aside) (r : ℤ) : Type 0 where
@@ -79,4 +79,4 @@ pub record Opened (m : Meaning) (ws vs : List ℕ) (b : Aside) (r : ℤ) : Type 
   pub words : vs ≡ replicate b.limit 0 ++ drop b.limit ws
   pub limit : b.limit ≡ min (length ws) 16384
   pub told : r ≡ pos b.limit
-  pub phase : b.phase ≡ 0
+  pub phase : b.phase ≡ at_rest

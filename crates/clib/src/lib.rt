@@ -1,19 +1,25 @@
 // The heap for C: functions on the caller's words and a state that the caller keeps. include/fusuma.h says how they are used.
 #![tactic(auto)]
 
-ghost use Rattle.std.specs.Prelude.{◌≡◌, ℕ, List};
+ghost use Rattle.std.specs.Prelude.{◌≡◌, ◌≢◌, MatchResult, Ok, Err};
+ghost use Rattle.clib.specs.declared.errors.TurnError.{TurnError};
 ghost use Rattle.clib.specs.Errors.{number_of};
-ghost use Rattle.clib.specs.States.{Under, Turn, TurnedBy};
+ghost use Rattle.clib.specs.Kept.{effect_of};
+ghost use Rattle.clib.specs.Schemes.{meaning_of};
+ghost use Rattle.clib.specs.States.{Under, Turn};
 ghost use Rattle.clib.specs.Turns.{Opened, Collected, Listed, BegunBy, DrawnBy, ClosedBy, GivenUpBy};
 
 use errors::{TurnError, number_of};
 use forms::{Answer, CallWords};
 use heap::Aside;
+use lent::{Lending, Lent};
 use schemes::AnyScheme;
-use turns::{Kept, Turned};
+use std::marker::Brand;
+use turns::{Kept, OutOfTurn, Step, Turned};
 
 mod errors;
 mod forms;
+mod lent;
 mod lists;
 mod schemes;
 #[cfg(test)]
@@ -31,37 +37,30 @@ pub struct State {
 /// A new heap over the words, by the scheme of that number.
 #[unsafe(no_mangle)]
 pub extern "C" fn fusuma_new(words: &mut [u32], state: &mut State, scheme: u32) -> i64
-    ensures { Under scheme (λ m. (vs : List ℕ) × Opened m words.old vs state.new.heap result × (state.new.scheme ≡ scheme)) (state.new ≡ state.old) result }
+    ensures { Under scheme (λ m. Opened m words.old words.new state.new.heap result × (state.new.scheme ≡ scheme)) ((state.new ≡ state.old) × (words.new ≡ words.old)) result }
 {
     number_of(open_by(words, state, scheme))
 }
 
 /// Opens a heap by the scheme of that number.
 fn open_by(words: &mut [u32], state: &mut State, scheme: u32) -> Result<i64, TurnError>
-    ensures { Under scheme (λ m. (vs : List ℕ) × Opened m words.old vs state.new.heap (number_of result) × (state.new.scheme ≡ scheme)) (state.new ≡ state.old) (number_of result) }
+    ensures { Under scheme (λ m. Opened m words.old words.new state.new.heap (number_of result) × (state.new.scheme ≡ scheme)) ((state.new ≡ state.old) × (words.new ≡ words.old)) (number_of result) }
 {
-    let (kept, used) = Kept::open(words, AnyScheme::try_from(scheme)?);
+    let named = AnyScheme::try_from(scheme)?;
+    let (_, aside, used) = open::<Brand>(words, named);
     state.scheme = scheme;
-    state.heap = kept.aside;
+    state.heap = aside;
     Ok(used)
 }
 
-/// Takes a step of the heap that the state keeps. Answers as the step does, or why nothing was done.
-// The step is lent, not moved in: so it is known afterwards what it left in what it captured, as in the room for answers.
-fn turn<'a, F>(words: &'a mut [u32], state: &mut State, step: &mut F) -> Result<i64, TurnError>
-where
-    F: FnMut(Kept<&'a mut [u32], AnyScheme>) -> Turned<&'a mut [u32], AnyScheme>,
-    requires { F.IsAlwaysCallable step.old }
-    ensures { TurnedBy (λ kept out. F.step step.old kept out step.new) words.old state.old state.new result }
+/// Opens a heap over words that are lent, and hands them back.
+fn open<'a, L: Lending>(words: &'a mut [u32], scheme: AnyScheme) -> (&'a mut [u32], Aside, i64)
+    requires { words.ghost_name ≡ L.name }
+    ensures same_reference { result.0.ghost_name ≡ words.entry.ghost_name }
+    ensures opened { Opened (meaning_of scheme) words.old result.0.now result.1 result.2 }
 {
-    let scheme = AnyScheme::try_from(state.scheme)?;
-    let (kept, answer) = step(Kept {
-        memory: words,
-        scheme,
-        aside: state.heap,
-    })?;
-    state.heap = kept.aside;
-    Ok(answer)
+    let (kept, used) = Kept::open(Lent::<L>::new(words), scheme);
+    (kept.memory.into_words(), kept.aside, used)
 }
 
 /// Gives calls to a resting heap, one after another, and writes their answers.
@@ -72,48 +71,129 @@ pub extern "C" fn fusuma_give(
     calls: &[CallWords],
     answers: &mut [Answer],
 ) -> i64
-    ensures { Turn (λ m ws a vs b n. Listed m calls.now answers.old answers.new ws a vs b n) words.old state.old state.new result }
+    ensures gives { Turn (λ m ws a vs b n. Listed m calls.now answers.old answers.new ws a vs b n) words.old state.old words.new state.new result }
+    ensures no_scheme { state.old.scheme ≢ 0 → state.old.scheme ≢ 1 → answers.new ≡ answers.old }
 {
-    number_of(turn(words, state, &mut |kept| kept.give(calls, answers)))
+    number_of(give_by(words, state, calls, answers))
+}
+
+/// Gives calls by the scheme that the state names.
+fn give_by(
+    words: &mut [u32],
+    state: &mut State,
+    calls: &[CallWords],
+    answers: &mut [Answer],
+) -> Result<i64, TurnError>
+    ensures gives { Turn (λ m ws a vs b n. Listed m calls.now answers.old answers.new ws a vs b n) words.old state.old words.new state.new (number_of result) }
+    ensures no_scheme { state.old.scheme ≢ 0 → state.old.scheme ≢ 1 → answers.new ≡ answers.old }
+{
+    let scheme = AnyScheme::try_from(state.scheme)?;
+    let (_, answer) = give::<Brand>(words, scheme, &mut state.heap, calls, answers);
+    answer
+}
+
+/// Gives calls to the heap over words that are lent, and hands them back.
+fn give<'a, L: Lending>(
+    words: &'a mut [u32],
+    scheme: AnyScheme,
+    aside: &mut Aside,
+    calls: &[CallWords],
+    answers: &mut [Answer],
+) -> (&'a mut [u32], Result<i64, TurnError>)
+    requires { words.ghost_name ≡ L.name }
+    ensures same_reference { result.0.ghost_name ≡ words.entry.ghost_name }
+    ensures gives { Listed (meaning_of scheme) calls.now answers.old answers.new words.old aside.old result.0.now aside.new (number_of result.1) }
+{
+    let kept = Kept {
+        memory: Lent::<L>::new(words),
+        scheme,
+        aside: *aside,
+    };
+    settle(kept.give(calls, answers), aside)
+}
+
+/// Takes a step by the scheme that the state names.
+fn take_by(words: &mut [u32], state: &mut State, step: Step) -> Result<i64, TurnError>
+    ensures { Turn (effect_of step) words.old state.old words.new state.new (number_of result) }
+{
+    let scheme = AnyScheme::try_from(state.scheme)?;
+    let (_, answer) = take::<Brand>(words, scheme, &mut state.heap, step);
+    answer
+}
+
+/// Takes a step of the heap over words that are lent, and hands them back.
+fn take<'a, L: Lending>(
+    words: &'a mut [u32],
+    scheme: AnyScheme,
+    aside: &mut Aside,
+    step: Step,
+) -> (&'a mut [u32], Result<i64, TurnError>)
+    requires { words.ghost_name ≡ L.name }
+    ensures same_reference { result.0.ghost_name ≡ words.entry.ghost_name }
+    ensures takes { effect_of step (meaning_of scheme) words.old aside.old result.0.now aside.new (number_of result.1) }
+{
+    let kept = Kept {
+        memory: Lent::<L>::new(words),
+        scheme,
+        aside: *aside,
+    };
+    settle(kept.take(step), aside)
+}
+
+/// Puts the heap aside after a turn, and hands the words back, with the answer or why nothing was done.
+fn settle<'a, L: Lending>(
+    turned: Turned<Lent<'a, L>, AnyScheme>,
+    aside: &mut Aside,
+) -> (&'a mut [u32], Result<i64, TurnError>)
+    ensures same_reference { result.0.ghost_name ≡ L.name }
+    ensures settled { MatchResult turned.entry (λ turn. (result.0.now ≡ turn.0.memory.words.now) × (aside.new ≡ turn.0.aside) × (result.1 ≡ Ok turn.1)) (λ out. (result.0.now ≡ out.0.memory.words.now) × (aside.new ≡ aside.old) × (result.1 ≡ Err TurnError.OutOfTurn)) }
+{
+    match turned {
+        Ok((kept, answer)) => {
+            *aside = kept.aside;
+            (kept.memory.into_words(), Ok(answer))
+        }
+        Err(OutOfTurn(kept)) => (kept.memory.into_words(), Err(TurnError::OutOfTurn)),
+    }
 }
 
 // A function for each step, with words and state apart: so C calls them.
 /// A whole collection of a resting heap.
 #[unsafe(no_mangle)]
 pub extern "C" fn fusuma_collect(words: &mut [u32], state: &mut State) -> i64
-    ensures { Turn Collected words.old state.old state.new result }
+    ensures { Turn Collected words.old state.old words.new state.new result }
 {
-    number_of(turn(words, state, &mut |kept| kept.collect()))
+    number_of(take_by(words, state, Step::Collect))
 }
 
 /// Begins a collection.
 #[unsafe(no_mangle)]
 pub extern "C" fn fusuma_begin(words: &mut [u32], state: &mut State) -> i64
-    ensures { Turn BegunBy words.old state.old state.new result }
+    ensures { Turn BegunBy words.old state.old words.new state.new result }
 {
-    number_of(turn(words, state, &mut |kept| kept.begin()))
+    number_of(take_by(words, state, Step::Begin))
 }
 
 /// Draws a begun heap.
 #[unsafe(no_mangle)]
 pub extern "C" fn fusuma_draw(words: &mut [u32], state: &mut State) -> i64
-    ensures { Turn DrawnBy words.old state.old state.new result }
+    ensures { Turn DrawnBy words.old state.old words.new state.new result }
 {
-    number_of(turn(words, state, &mut |kept| kept.draw()))
+    number_of(take_by(words, state, Step::Draw))
 }
 
 /// Closes a drawn heap.
 #[unsafe(no_mangle)]
 pub extern "C" fn fusuma_close(words: &mut [u32], state: &mut State) -> i64
-    ensures { Turn ClosedBy words.old state.old state.new result }
+    ensures { Turn ClosedBy words.old state.old words.new state.new result }
 {
-    number_of(turn(words, state, &mut |kept| kept.close()))
+    number_of(take_by(words, state, Step::Close))
 }
 
 /// Gives up the collection of a begun heap.
 #[unsafe(no_mangle)]
 pub extern "C" fn fusuma_give_up(words: &mut [u32], state: &mut State) -> i64
-    ensures { Turn GivenUpBy words.old state.old state.new result }
+    ensures { Turn GivenUpBy words.old state.old words.new state.new result }
 {
-    number_of(turn(words, state, &mut |kept| kept.give_up()))
+    number_of(take_by(words, state, Step::GiveUp))
 }

@@ -1,11 +1,9 @@
 // What a caller from outside may do to a heap that it keeps, over any memory and scheme.
 ghost use Rattle.std.specs.Prelude.{◌≡◌, ◌≢◌, ◌↔◌, IsOk, MatchResult};
-ghost use Rattle.heap.specs.Asides.{Resumes};
+ghost use Rattle.heap.specs.Asides.{Resumes, Suspends, at_rest, begun};
 ghost use Rattle.clib.specs.Turns.{Opened, Collected, Listed, BegunBy, DrawnBy, ClosedBy, GivenUpBy, IsDrawn};
-ghost use Rattle.clib.specs.Kept.{Does};
-ghost use Rattle.clib.specs.declared.errors.TurnError.{TurnError};
+ghost use Rattle.clib.specs.Kept.{Does, effect_of};
 
-use crate::errors::TurnError;
 use crate::forms::{Answer, CallWords};
 use crate::lists::give_list;
 use heap::{Aside, Begun, Drawn, Heap, Phase, WORDS};
@@ -21,22 +19,23 @@ pub struct Kept<M: Memory, S: Scheme> {
 }
 
 /// The heap is not in the phase that is asked for: it comes back as it was.
-#[derive(Drop)]
 pub struct OutOfTurn<M: Memory, S: Scheme>(pub Kept<M, S>);
+
+/// A whole collection, or a step of one.
+#[derive(Clone, Copy, Debug, PartialEq, Eq)]
+pub enum Step {
+    Collect,
+    Begin,
+    Draw,
+    Close,
+    GiveUp,
+}
 
 /// What a turn gives: the heap after it, with its answer.
 pub type Turned<M, S> = Result<(Kept<M, S>, i64), OutOfTurn<M, S>>;
 
-impl<M: Memory + Drop, S: Scheme + Drop> From<OutOfTurn<M, S>> for TurnError {
-    ghost from_gives = { λ _ error. error ≡ TurnError.OutOfTurn };
-
-    fn from(_kept: OutOfTurn<M, S>) -> TurnError {
-        TurnError::OutOfTurn
-    }
-}
-
 impl<M: Memory, S: Scheme> From<Phase<M, S>> for Kept<M, S> {
-    ghost from_gives = { λ phase kept. Resumes kept.memory kept.scheme kept.aside phase };
+    ghost from_gives = { λ phase kept. Suspends phase kept.memory kept.scheme kept.aside };
 
     fn from(phase: Phase<M, S>) -> Kept<M, S> {
         let (memory, scheme, aside) = phase.suspend();
@@ -69,7 +68,7 @@ impl<M: Memory, S: Scheme> Kept<M, S> {
     // One each for the three phases, as each holds a type of its own: a closure that picks the phase, or gives the heap back, would be this `match` again.
     /// The heap, if it rests.
     fn resting(self) -> Result<Heap<M, S>, OutOfTurn<M, S>>
-        ensures { MatchResult result (λ heap. Resumes self.memory self.scheme self.aside (Phase.Resting heap)) (λ out. (self.aside.phase ≢ 0) × (out.0 ≡ self)) }
+        ensures { MatchResult result (λ heap. Resumes self.memory self.scheme self.aside (Phase.Resting heap)) (λ out. (self.aside.phase ≢ at_rest) × (out.0 ≡ self)) }
     {
         let aside = self.aside;
         match self.resume() {
@@ -83,7 +82,7 @@ impl<M: Memory, S: Scheme> Kept<M, S> {
 
     /// The heap, if its collection is begun.
     fn begun(self) -> Result<Begun<M, S>, OutOfTurn<M, S>>
-        ensures { MatchResult result (λ begun. Resumes self.memory self.scheme self.aside (Phase.Begun begun)) (λ out. (self.aside.phase ≢ 1) × (out.0 ≡ self)) }
+        ensures { MatchResult result (λ begun. Resumes self.memory self.scheme self.aside (Phase.Begun begun)) (λ out. (self.aside.phase ≢ begun) × (out.0 ≡ self)) }
     {
         let aside = self.aside;
         match self.resume() {
@@ -111,7 +110,7 @@ impl<M: Memory, S: Scheme> Kept<M, S> {
 
     /// A whole collection of a resting heap. Answers the live words.
     pub fn collect(self) -> Turned<M, S>
-        ensures in_turn { IsOk result ↔ (self.aside.phase ≡ 0) }
+        ensures in_turn { IsOk result ↔ (self.aside.phase ≡ at_rest) }
         ensures does { Does Collected M.Memory.words S.Scheme.meaning self result }
     {
         let mut heap = self.resting()?;
@@ -121,7 +120,7 @@ impl<M: Memory, S: Scheme> Kept<M, S> {
 
     /// Gives calls to a resting heap, one after another. Answers how many it gave.
     pub fn give(self, calls: &[CallWords], answers: &mut [Answer]) -> Turned<M, S>
-        ensures in_turn { IsOk result ↔ (self.aside.phase ≡ 0) }
+        ensures in_turn { IsOk result ↔ (self.aside.phase ≡ at_rest) }
         ensures does { Does (λ m ws a vs b n. Listed m calls.now answers.old answers.new ws a vs b n) M.Memory.words S.Scheme.meaning self result }
     {
         let mut heap = self.resting()?;
@@ -131,7 +130,7 @@ impl<M: Memory, S: Scheme> Kept<M, S> {
 
     /// Begins a collection of a resting heap. Answers the live words.
     pub fn begin(self) -> Turned<M, S>
-        ensures in_turn { IsOk result ↔ (self.aside.phase ≡ 0) }
+        ensures in_turn { IsOk result ↔ (self.aside.phase ≡ at_rest) }
         ensures does { Does BegunBy M.Memory.words S.Scheme.meaning self result }
     {
         let begun = self.resting()?.begin();
@@ -141,7 +140,7 @@ impl<M: Memory, S: Scheme> Kept<M, S> {
 
     /// Draws a begun heap. Answers 0.
     pub fn draw(self) -> Turned<M, S>
-        ensures in_turn { IsOk result ↔ (self.aside.phase ≡ 1) }
+        ensures in_turn { IsOk result ↔ (self.aside.phase ≡ begun) }
         ensures does { Does DrawnBy M.Memory.words S.Scheme.meaning self result }
     {
         let drawn = self.begun()?.draw();
@@ -159,10 +158,23 @@ impl<M: Memory, S: Scheme> Kept<M, S> {
 
     /// Gives up the collection of a begun heap. Answers 0.
     pub fn give_up(self) -> Turned<M, S>
-        ensures in_turn { IsOk result ↔ (self.aside.phase ≡ 1) }
+        ensures in_turn { IsOk result ↔ (self.aside.phase ≡ begun) }
         ensures does { Does GivenUpBy M.Memory.words S.Scheme.meaning self result }
     {
         let heap = self.begun()?.give_up();
         Ok((Kept::from(Phase::Resting(heap)), 0))
+    }
+
+    /// Takes the step.
+    pub fn take(self, step: Step) -> Turned<M, S>
+        ensures { Does (effect_of step) M.Memory.words S.Scheme.meaning self result }
+    {
+        match step {
+            Step::Collect => self.collect(),
+            Step::Begin => self.begin(),
+            Step::Draw => self.draw(),
+            Step::Close => self.close(),
+            Step::GiveUp => self.give_up(),
+        }
     }
 }
