@@ -1,7 +1,7 @@
 // Lists of calls over new heaps, and what no such list can tell.
 #![tactic(auto)]
 
-ghost use Rattle.std.specs.Prelude.{◌≡◌, ℕ, ◌+◌, ◌≤◌, ◌<◌, List, [], ◌∷◌, IfOk, IfErr, length, vec_len, vec_capacity};
+ghost use Rattle.std.specs.Prelude.{◌≡◌, ℕ, ◌+◌, ◌≤◌, ◌<◌, List, [], ◌∷◌, IfOk, IfErr, IsOk, length, vec_len, vec_capacity};
 ghost use Rattle.graph.specs.Runs.{others};
 ghost use Rattle.heap.specs.Views.{view};
 ghost use Rattle.service.specs.Course.{Continues};
@@ -23,7 +23,7 @@ impl<M: Memory, S: Scheme> Served<M, S> {
     /// Gives the heap more calls; their answers come behind those at hand. Where a list over a new
     /// heap left it, both lists are served as one: so a list may be halted at any call, the heap
     /// looked at, and the answers taken away. Fails only where there is no memory for the answers,
-    /// and hands everything back as it was.
+    /// so not where there is room for them, and hands everything back as it was.
     pub fn go_on(mut self, calls: &[Call]) -> Result<Self, AllocFailed<Self>>
         ensures continues { IfOk result (λ s. Continues (S.Scheme.meaning self.heap.scheme)
             (view M.Memory.words self.heap) self.answers.items
@@ -32,6 +32,8 @@ impl<M: Memory, S: Scheme> Served<M, S> {
             (view M.Memory.words self.heap) self.answers.items
             calls.now s.answers.items (view M.Memory.words s.heap)) }
         ensures scheme { IfOk result (λ s. s.heap.scheme ≡ self.heap.scheme) }
+        ensures succeeds { vec_len self.answers + length calls.now ≤ vec_capacity self.answers
+            → IsOk result }
         ensures unchanged { IfErr result (λ e. (e.value.heap ≡ self.heap)
             × (e.value.answers.items ≡ self.answers.items)) }
     {
@@ -114,7 +116,7 @@ fn serve_reserved<M: Memory, S: Scheme>(
 /// end of each collection the packed words alone stand. And whatever list that differs only in its
 /// collections, at once, by steps or given up, was given to whatever new heap of as many words:
 /// all its other calls had the same answers. Fails only where there is no memory for the answers,
-/// before a heap is made.
+/// before a heap is made; an empty list needs none.
 pub fn serve<M: Memory + Drop, S: Scheme + Drop>(
     memory: M,
     scheme: S,
@@ -126,6 +128,7 @@ pub fn serve<M: Memory + Drop, S: Scheme + Drop>(
     ensures unnoticed { IfOk result (λ s. Unnoticed (S.Scheme.meaning scheme) (M.Memory.words memory)
         calls.now s.answers.items (view M.Memory.words s.heap)) }
     ensures scheme { IfOk result (λ s. s.heap.scheme ≡ scheme) }
+    ensures succeeds { length calls.now ≡ 0 → IsOk result }
 {
     let answers = Vec::with_capacity(alloc, calls.len())?;
     Ok(serve_reserved(memory, scheme, calls, answers))
@@ -172,7 +175,7 @@ pub fn serve_watched<M: Memory + Drop, S: Scheme + Drop, O: Onlooker<M, S>>(
 /// Where the schemes mean the same, the heaps have as many words and the lists differ only in their
 /// collections, all other calls have the same answers and both heaps stand for one still graph; and
 /// where a collection was the last call of each, their words are the same. Fails only where there
-/// is no memory for the answers, before a heap is made.
+/// is no memory for the answers, before a heap is made; empty lists need none.
 pub fn serve_both<M: Memory + Drop, S: Scheme + Drop, N: Memory + Drop, T: Scheme + Drop>(
     memory: M,
     scheme: S,
@@ -187,6 +190,7 @@ pub fn serve_both<M: Memory + Drop, S: Scheme + Drop, N: Memory + Drop, T: Schem
     ensures other_served { IfOk result (λ both. ServedAs (T.Scheme.meaning other_scheme) (N.Memory.words other_memory)
         other_calls.now both.1.answers.items (view N.Memory.words both.1.heap)) }
     ensures schemes { IfOk result (λ both. (both.0.heap.scheme ≡ scheme) × (both.1.heap.scheme ≡ other_scheme)) }
+    ensures succeeds { length calls.now ≡ 0 → length other_calls.now ≡ 0 → IsOk result }
     ensures alike { S.Scheme.meaning scheme ≡ T.Scheme.meaning other_scheme
         → heap_words (M.Memory.words memory) ≡ heap_words (N.Memory.words other_memory)
         → others calls.now ≡ others other_calls.now
