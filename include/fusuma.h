@@ -12,8 +12,8 @@
  *   reference that leads there, and what it answers is not said; but no function reads or writes outside the words, the state and the
  *   lists that it is given, and each returns.
  * - The state is the heap's own: make it by `fusuma_new`, which may be called in any phase and forgets what was there, and alter nothing in it.
- * - A function that is called out of turn, an empty list of calls too, answers FUSUMA_OUT_OF_TURN: while a collection is begun or drawn only its
- *   next step may be taken. One whose scheme is neither of the two answers FUSUMA_NO_SCHEME. Both alter nothing: the words, the state and the
+ * - A function that is called out of turn, an empty list of calls too, answers FUSUMA_OUT_OF_TURN: after begin only draw or give up may follow,
+ *   after draw only close. One whose scheme is neither of the two answers FUSUMA_NO_SCHEME, in whichever phase. Both alter nothing: the words, the state and the
  *   answers stay as they are.
  * - No function allocates, calls back or keeps anything of its own. Two heaps may be used side by side, by two threads too.
  */

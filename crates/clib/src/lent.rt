@@ -12,6 +12,8 @@ pub trait Lending {
     ghost name: { GName };
 }
 
+// The trait wants a name here; no call goes by it, as each that passes `Brand` picks that of its
+// own borrow.
 impl Lending for Brand {
     ghost name = { 0 };
 }
