@@ -67,7 +67,9 @@ impl Memory for &mut [u32] {
         }
     }
 
-    // Whoever calls it knows the bounds, so the machine code tests none of them.
+    // Whoever calls it knows the bounds, so the machine code tests none of them. By `copy_within`,
+    // which is compiled into a loop: `copy_from_slice` would be a call of `memmove`, which whoever
+    // links the library for C would have to bring.
     #[inline(always)]
     fn shift_within(&mut self, from: usize, to: usize, size: usize)
         requires from_in { from + size ≤ length self.old.now }
@@ -76,13 +78,7 @@ impl Memory for &mut [u32] {
         ensures words { (k : ℕ) → slice_index self.new.now k ≡ shifted self.old.now from to size k }
         ensures same_reference { self.new.ghost_name ≡ self.old.ghost_name }
     {
-        if to <= from && size <= from - to {
-            move_down(&mut self[to..from + size], from - to, size);
-        } else if from + size <= to {
-            move_up(&mut self[from..to + size], to - from, size);
-        } else {
-            move_near(self, from, to, size);
-        }
+        self.copy_within(from..from + size, to);
     }
 
     fn clear(&mut self, from: usize, end: usize)
@@ -95,50 +91,6 @@ impl Memory for &mut [u32] {
             self[from..end].fill(0);
         }
     }
-}
-
-// The last words, so many, over the first.
-#[inline(always)]
-fn move_down(words: &mut [u32], gap: usize, size: usize)
-    requires apart { size ≤ gap }
-    requires whole { gap + size ≡ length words.old }
-    ensures length { length words.new ≡ length words.old }
-    ensures words { (k : ℕ) → slice_index words.new k ≡ shifted words.old gap 0 size k }
-{
-    let (first, last) = words.split_at_mut(gap);
-    copy(&mut first[..size], last);
-}
-
-// The first words, so many, over the last.
-#[inline(always)]
-fn move_up(words: &mut [u32], gap: usize, size: usize)
-    requires apart { size ≤ gap }
-    requires whole { gap + size ≡ length words.old }
-    ensures length { length words.new ≡ length words.old }
-    ensures words { (k : ℕ) → slice_index words.new k ≡ shifted words.old 0 gap size k }
-{
-    let (first, last) = words.split_at_mut(gap);
-    copy(last, &first[..size]);
-}
-
-// Words that lie apart go in one `memmove`, which a `copy_within` does not become.
-#[inline(never)]
-fn copy(to: &mut [u32], from: &[u32])
-    requires { length to.old ≡ length from.now }
-    ensures { to.new ≡ from.now }
-{
-    to.copy_from_slice(from);
-}
-
-// Words that overlap those they are moved over: out of line, so that `shift` stays short where it is inlined.
-#[inline(never)]
-fn move_near(words: &mut [u32], from: usize, to: usize, size: usize)
-    requires from_in { from + size ≤ length words.old }
-    requires to_in { to + size ≤ length words.old }
-    ensures length { length words.new ≡ length words.old }
-    ensures words { (k : ℕ) → slice_index words.new k ≡ shifted words.old from to size k }
-{
-    words.copy_within(from..from + size, to);
 }
 
 // The whole slice: two words, and 0 behind them.
