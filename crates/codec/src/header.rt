@@ -74,6 +74,13 @@ pub fn is_marked(word: u32) -> bool
     word % 4 == 3
 }
 
+/// Whether the word is the header of an object that is not marked.
+pub fn is_unmarked(word: u32) -> bool
+    ensures { result ≡ (word % 4 == 1) }
+{
+    word % 4 == 1
+}
+
 /// Whether a header has its mark, which is bit 1.
 pub fn has_mark(header: u32) -> bool
     ensures { result ≡ (header / 2 % 2 == 1) }

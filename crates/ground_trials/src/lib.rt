@@ -328,7 +328,8 @@ mod tests {
         assert_eq!(rt; header::unmarked(83), 81);
         assert_eq!(rt; header::size_in(83), 5);
         assert_eq!(rt; header::shape_in(89).map(Shape::number), Some(2));
-        assert!(rt; header::is_marked(83) && !header::is_marked(81));
+        assert!(rt; header::is_marked(83) && header::is_unmarked(81));
+        assert!(rt; !header::is_marked(81) && !header::is_unmarked(83));
         assert_eq!(rt;
             [80, 81, 82, 83, 85, 94, u32::MAX].map(header::has_mark),
             [false, false, true, true, false, true, true]
