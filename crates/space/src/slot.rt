@@ -4,8 +4,9 @@ ghost use Rattle.scheme.specs.Meaning.{Meaning};
 ghost use Rattle.graph.specs.Places.{refers, value_at};
 ghost use Rattle.space.specs.Pass.{rule_at};
 ghost use Rattle.space.specs.Slots.{values_of, Popped, Reads};
+ghost use Rattle.space.specs.Weave.{view};
 
-use crate::Space;
+use crate::{Space, WORDS};
 use codec::header::is_record;
 use codec::value::{place_of, refers};
 use memory::Memory;
@@ -114,8 +115,21 @@ impl<M: Memory> Space<M> {
     }
 
     /// The rule of the record at the place, through its layout and map.
+    pub fn rule_of(&self, place: u32) -> u32
+        ensures { place < 16384 → result ≡
+            rule_at (view (M.Memory.words self.now.memory) self.now.handles) place }
+    {
+        if place >= WORDS {
+            return 0;
+        }
+        let layout = self.look(place + 1);
+        let map = self.look(place_of(layout) + 2);
+        self.look(place_of(map) + 1)
+    }
+
+    /// The same by the memory's words alone, for whoever knows how many are to use.
     #[inline(always)]
-    pub fn rule_of(&self, limit: u32, place: u32) -> u32
+    pub fn rule_in(&self, limit: u32, place: u32) -> u32
         requires limit { limit ≡ min (length (M.Memory.words self.now.memory)) 16384 }
         requires place { place ≤ limit }
         ensures { result ≡ rule_at (slice_index (M.Memory.words self.now.memory)) place }
@@ -133,7 +147,7 @@ impl<M: Memory> Space<M> {
         requires place { place ≤ limit }
         ensures { (i : ℕ) → i < 64 → values_of result i ≡ value_at (S.Scheme.meaning scheme.now) 0 (rule_at (slice_index (M.Memory.words self.now.memory)) place) i }
     {
-        Slots::of_record(scheme, self.rule_of(limit, place))
+        Slots::of_record(scheme, self.rule_in(limit, place))
     }
 
     /// Which words of the object at the place hold values; it has that header. Bits that are no kind's are read as a map's.
