@@ -46,12 +46,13 @@ impl Side for Classes {
         slots_of_class(object.header)
     }
 
+    // Stopping at 0, so that place and next are told of any size.
     fn place(cursor: u32, size: u32) -> u32 {
-        cursor.wrapping_sub(size)
+        cursor.saturating_sub(size)
     }
 
     fn next(cursor: u32, size: u32) -> u32 {
-        cursor.wrapping_sub(size)
+        cursor.saturating_sub(size)
     }
 
     fn take(bounds: &mut Bounds, size: u32) -> u32 {

@@ -1,10 +1,10 @@
 // The two sides of a heap: records from the left by their headers, classes from the right by their
 // boundary tags.
-ghost use Rattle.std.specs.Prelude.{◌≡◌, ◌+◌, ◌*◌, ◌/◌, ◌%◌, ◌^◌, ◌<◌, ◌≤◌, ◌==◌, Bool, false, length, min, nat_le};
+ghost use Rattle.std.specs.Prelude.{◌≡◌, ◌+◌, ◌*◌, ◌/◌, ◌%◌, ◌^◌, ◌<◌, ◌≤◌, ◌==◌, Bool, false, true, length, min, nat_le};
 ghost use Rattle.space.specs.Ends.{innermost, taken, tag_by};
 ghost use Rattle.space.specs.Pass.{place_by, next_by, before};
 ghost use Rattle.space.specs.Slots.{Reads};
-ghost use Rattle.space.specs.Met.{Among, Goes, FindsHeader, size_by, Sees};
+ghost use Rattle.space.specs.Met.{Among, FindsHeader, size_by, Sees};
 
 use crate::{Bounds, Slots, Space};
 use memory::Memory;
@@ -57,11 +57,12 @@ pub trait Side {
 
     // Where an object of that size lies.
     fn place(cursor: u32, size: u32) -> u32
-        ensures { Goes upward cursor size → result ≡ place_by upward cursor size };
+        ensures { result ≡ place_by upward cursor size };
 
-    // Where the cursor goes after it.
+    // Where the cursor goes after it. Down it is told always, up where the sum fits in 32 bits.
     fn next(cursor: u32, size: u32) -> u32
-        ensures { Goes upward cursor size → result ≡ next_by upward cursor size };
+        ensures { (upward ≡ true → cursor + size < 2 ^ 32)
+            → result ≡ next_by upward cursor size };
 
     // The place of a new object of that size, innermost on the side; the bounds then have it within.
     fn take(bounds: &mut Bounds, size: u32) -> u32

@@ -16,7 +16,7 @@ walk-preserved g c =
     let seen = c.in-Some.ensures in
     let ws = g.M.Memory.words c.walk.space.memory in
     let hs = c.walk.space.handles in
-    let next = c.next-cursor.ensures seen.leads.goes in
+    let next = c.next-cursor.ensures seen.leads.goes.upward in
     let on = sym c.is_before.ensures ∙ c.walk-test.true in
     let ne = apart up c.walk.cursor c.args.end on in
     elim c.if-has_mark.branch [
