@@ -12,8 +12,7 @@ use Rattle.numbers.specs.Numbers.{read_on}
 use Rattle.lexer.specs.Pieces.{Lacks, lines, pieces}
 use Rattle.lexer.proofs.Cuts.{pieces_more, pieces_last, lines_more}
 use Rattle.report.specs.declared.reports.Report.{Report}
-use Rattle.report.specs.declared.reports.Stop.{Stop}
-use Rattle.report.specs.Reports.{state, number, position, shown_report, written}
+use Rattle.report.specs.Reports.{state, number, shown_report, written}
 use Rattle.report.specs.Reading.{read_signed, read_as, read_values, read_report, Fits, ReadBack, OutputReadBack}
 
 own : IsNumeralModel (λ ds. all_ascii_digits ds ≡ true) (read_on 0)
@@ -49,34 +48,34 @@ signed_back : (z : ℤ) → mag z < 2 ^ 63 → read_signed (signed_decimal z) �
 signed_back (pos n) h = read_pos (decimal n) (lacks-decimal 45 (λ i. omega (arith, i.0)) n (omega (arith, h))) ∙ ap pos (digits_value-decimal own n (omega (arith, h)))
 signed_back (negsuc n) h = ap (λ k. neg_ℤ (pos k)) (digits_value-decimal own (suc n) (omega (arith, h)))
 
-lacks-state : (m : ℕ) → m < 97 → (o : Result ℤ Stop) → Lacks m (state o)
+lacks-state : (m : ℕ) → m < 97 → (o : Result ℤ ℤ) → Lacks m (state o)
 lacks-state m small (Ok answer) = lacks-cons m 111 (107 ∷ []) (λ e. omega (arith, e, small)) (lacks-cons m 107 [] (λ e. omega (arith, e, small)) (λ k h e. omega (arith, h)))
 lacks-state m small (Err e) = lacks-cons m 110 (111 ∷ []) (λ e. omega (arith, e, small)) (lacks-cons m 111 [] (λ e. omega (arith, e, small)) (λ k h e. omega (arith, h)))
 
--- an outcome is read as it was, where its number and its position are
-told-back : (l : ℕ) (o : Result ℤ Stop) (i p : List ℕ) → read_signed i ≡ number o → read_on 0 p ≡ position o → read_as l (state o) i p ≡ Some (record { line = l; outcome = o })
-told-back l (Ok answer) i p ei ep = rw (ei, ep) refl
-told-back l (Err e) i p ei ep = rw (ei, ep) refl
+-- a report is read as it was, where its number and its position are
+told-back : (l a : ℕ) (o : Result ℤ ℤ) (i p : List ℕ) → read_signed i ≡ number o → read_on 0 p ≡ a → read_as l (state o) i p ≡ Some (record { line = l; at = a; outcome = o })
+told-back l a (Ok answer) i p ei ep = rw (ei, ep) refl
+told-back l a (Err e) i p ei ep = rw (ei, ep) refl
 
 module _ (r : Report) (fits : Fits r) where
   line-fits : r.line < 2 ^ 64
   line-fits = omega (arith, fits.line)
 
-  at-fits : position r.outcome < 2 ^ 64
+  at-fits : r.at < 2 ^ 64
   at-fits = omega (arith, fits.at)
 
-  cut : pieces (shown_report r) ≡ decimal r.line ∷ state r.outcome ∷ signed_decimal (number r.outcome) ∷ decimal (position r.outcome) ∷ []
+  cut : pieces (shown_report r) ≡ decimal r.line ∷ state r.outcome ∷ signed_decimal (number r.outcome) ∷ decimal r.at ∷ []
   cut =
       pieces_more (decimal r.line) _ (lacks-decimal 32 spaces r.line line-fits)
       ∙ ap (λ ps. decimal r.line ∷ ps) (pieces_more (state r.outcome) _ (lacks-state 32 (omega arith) r.outcome)
       ∙ ap (λ ps. state r.outcome ∷ ps) (pieces_more (signed_decimal (number r.outcome)) _ (lacks-signed 32 spaces (λ e. omega (arith, e)) (number r.outcome) fits.number)
-      ∙ ap (λ ps. signed_decimal (number r.outcome) ∷ ps) (pieces_last (decimal (position r.outcome)) (lacks-decimal 32 spaces (position r.outcome) at-fits))))
+      ∙ ap (λ ps. signed_decimal (number r.outcome) ∷ ps) (pieces_last (decimal r.at) (lacks-decimal 32 spaces r.at at-fits))))
 
   back : read_report (shown_report r) ≡ Some r
   back =
       ap read_values cut
-      ∙ ap (λ l. read_as l (state r.outcome) (signed_decimal (number r.outcome)) (decimal (position r.outcome))) (digits_value-decimal own r.line line-fits)
-      ∙ told-back r.line r.outcome (signed_decimal (number r.outcome)) (decimal (position r.outcome)) (signed_back (number r.outcome) fits.number) (digits_value-decimal own (position r.outcome) at-fits)
+      ∙ ap (λ l. read_as l (state r.outcome) (signed_decimal (number r.outcome)) (decimal r.at)) (digits_value-decimal own r.line line-fits)
+      ∙ told-back r.line r.at r.outcome (signed_decimal (number r.outcome)) (decimal r.at) (signed_back (number r.outcome) fits.number) (digits_value-decimal own r.at at-fits)
 
   space : (xs : List ℕ) → Lacks 10 xs → Lacks 10 (32 ∷ xs)
   space xs h = lacks-cons 10 32 xs (λ e. omega (arith, e)) h
@@ -86,7 +85,7 @@ module _ (r : Report) (fits : Fits r) where
       lacks-append 10 (decimal r.line) _ (lacks-decimal 10 newlines r.line line-fits) (space _ (
       lacks-append 10 (state r.outcome) _ (lacks-state 10 (omega arith) r.outcome) (space _ (
       lacks-append 10 (signed_decimal (number r.outcome)) _ (lacks-signed 10 newlines (λ e. omega (arith, e)) (number r.outcome) fits.number) (space _ (
-      lacks-decimal 10 newlines (position r.outcome) at-fits))))))
+      lacks-decimal 10 newlines r.at at-fits))))))
 
 pub read_back : ReadBack
 read_back = back

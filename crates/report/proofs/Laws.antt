@@ -19,36 +19,35 @@ use Rattle.load.specs.declared.names.Columns.{Columns}
 use Rattle.load.proofs.Once.{named_once}
 use Rattle.load.proofs.Titles.{Said, names-told}
 use Rattle.report.specs.declared.reports.Report.{Report}
-use Rattle.report.specs.declared.reports.Stop.{Stop}
 use Rattle.report.specs.declared.line_faults.CallFault.TheVariants.{Text}
 use Rattle.report.specs.Faults.{of_text, of_heap, on_line}
 use Rattle.report.specs.Loads.{first, behind, answered, runs, told, loaded}
 use Rattle.report.specs.Reports.{reported}
-use Rattle.report.specs.Laws.{IsRead, said, is_call, is_no_collect, calls_in, told_where, told_fault, told_outcome, Tells, AlikeWhere, AlikeButFor, KeepsLaws}
+use Rattle.report.specs.Laws.{IsRead, said, is_call, is_no_collect, calls_in, Told, told_in, telling, told_where, told_fault, told_outcome, Tells, AlikeWhere, AlikeButFor, KeepsLaws}
 
 -- What lines say, and what is told of them.
 
 abbrev Line : Type 0
 Line = Result Call TextFault
 
-abbrev outcomes : List Report → List (Result ℤ Stop)
-outcomes rs = map (λ (r : Report). r.outcome) rs
+abbrev outcomes : List Report → List Told
+outcomes rs = map told_in rs
 
 module _ (m : Meaning) (W : ℕ) where
   abbrev next : Line → Graph → Graph
   next (Ok c) g = (step m W c g).1
   next (Err e) g = g
 
-  abbrev what : Line → Graph → Result ℤ Stop
+  abbrev what : Line → Graph → Told
   what (Ok c) g = told_outcome (step m W c g).0
   what (Err e) g = told_fault e
 
-  abbrev all_told : List Line → Graph → List (Result ℤ Stop)
+  abbrev all_told : List Line → Graph → List Told
   all_told [] g = []
   all_told (x ∷ xs) g = what x g ∷ all_told xs (next x g)
 
   -- what is told of the lines that pass a test, by the outcomes alone
-  abbrev pick : (Line → Bool) → List Line → List (Result ℤ Stop) → List (Result ℤ Stop)
+  abbrev pick : (Line → Bool) → List Line → List Told → List Told
   pick test [] os = []
   pick test (x ∷ xs) [] = []
   pick test (x ∷ xs) (o ∷ os) = cond (test x) (o ∷ pick test xs os) (pick test xs os)
@@ -56,7 +55,7 @@ module _ (m : Meaning) (W : ℕ) where
   picked : (test : Line → Bool) (xs : List Line) (rs : List Report) → told_where test xs rs ≡ pick test xs (outcomes rs)
   picked test [] rs = refl
   picked test (x ∷ xs) [] = refl
-  picked test (x ∷ xs) (r ∷ rs) = ap (λ (os : List (Result ℤ Stop)). cond (test x) (r.outcome ∷ os) os) (picked test xs rs)
+  picked test (x ∷ xs) (r ∷ rs) = ap (λ (os : List Told). cond (test x) (told_in r ∷ os) os) (picked test xs rs)
 
   -- lines that change nothing may be left out
   left-out : (test : Line → Bool) → ((x : Line) (g : Graph) → test x ≡ false → next x g ≡ g) → (xs : List Line) (g : Graph) → pick test xs (all_told xs g) ≡ all_told (filter test xs) g
@@ -66,7 +65,7 @@ module _ (m : Meaning) (W : ℕ) where
       elim (cases_Bool (test x)) [
         | inl e ↦
             cond-true (test x) (what x g ∷ pick test xs (all_told xs (next x g))) _ e
-            ∙ ap {B = List (Result ℤ Stop)} (λ (os : List (Result ℤ Stop)). what x g ∷ os) rest
+            ∙ ap {B = List Told} (λ (os : List Told). what x g ∷ os) rest
             ∙ ap (λ (ys : List Line). all_told ys g) (sym (cond-true (test x) (x ∷ filter test xs) (filter test xs) e))
         | inr e ↦
             cond-false (test x) (what x g ∷ pick test xs (all_told xs (next x g))) _ e
@@ -90,11 +89,11 @@ module _ (m : Meaning) (W : ℕ) where
   -- the calls among the lines are answered as the list of these calls
   calls-told : (xs : List Line) (g : Graph) → pick is_call xs (all_told xs g) ≡ map told_outcome (run m W (calls_in xs) g).0
   calls-told [] g = refl
-  calls-told (Ok c ∷ xs) g = ap {B = List (Result ℤ Stop)} (λ (os : List (Result ℤ Stop)). told_outcome (step m W c g).0 ∷ os) (calls-told xs (step m W c g).1)
+  calls-told (Ok c ∷ xs) g = ap {B = List Told} (λ (os : List Told). told_outcome (step m W c g).0 ∷ os) (calls-told xs (step m W c g).1)
   calls-told (Err e ∷ xs) g = calls-told xs g
 
   -- the reports of lines
-  told-of : (n : ℕ) (o : Outcome) → (reported n (on_line (of_heap o) n)).outcome ≡ told_outcome o
+  told-of : (n : ℕ) (o : Outcome) → told_in (reported n (on_line (of_heap o) n)) ≡ told_outcome o
   told-of n (Ok a) = refl
   told-of n (Err r) = refl
 
@@ -102,7 +101,7 @@ module _ (m : Meaning) (W : ℕ) where
   line-of n (Ok a) = refl
   line-of n (Err r) = refl
 
-  one-outcome : (n : ℕ) (x : Line) (g : Graph) → (reported n (on_line (answered (step m W) g x).0 n)).outcome ≡ what x g
+  one-outcome : (n : ℕ) (x : Line) (g : Graph) → told_in (reported n (on_line (answered (step m W) g x).0 n)) ≡ what x g
   one-outcome n (Ok c) g = told-of n (step m W c g).0
   one-outcome n (Err e) g = refl
 
@@ -119,8 +118,8 @@ module _ (m : Meaning) (W : ℕ) where
     runs-outcomes n [] g = refl
     runs-outcomes n (l ∷ ls) g =
         let x = parsed c l in
-        ap (λ (o : Result ℤ Stop). o ∷ outcomes (runs (step m W) (answered (step m W) g x).1 c (suc n) ls)) (one-outcome n x g)
-        ∙ ap {B = List (Result ℤ Stop)} (λ (os : List (Result ℤ Stop)). what x g ∷ os) (ap (λ (h : Graph). outcomes (runs (step m W) h c (suc n) ls)) (one-next x g) ∙ runs-outcomes (suc n) ls (next x g))
+        ap (λ (o : Told). o ∷ outcomes (runs (step m W) (answered (step m W) g x).1 c (suc n) ls)) (one-outcome n x g)
+        ∙ ap {B = List Told} (λ (os : List Told). what x g ∷ os) (ap (λ (h : Graph). outcomes (runs (step m W) h c (suc n) ls)) (one-next x g) ∙ runs-outcomes (suc n) ls (next x g))
 
     runs-length : (n : ℕ) (ls : List (List ℕ)) (g : Graph) → length (runs (step m W) g c n ls) ≡ length ls
     runs-length n [] g = refl
@@ -137,25 +136,25 @@ module _ (m : Meaning) (W : ℕ) where
         omega (arith, is)
 
   -- a fault's outcome, read at its place
-  faults-told : (xs : List Line) (rs : List Report) (g : Graph) → outcomes rs ≡ all_told xs g → (k : ℕ) (e : TextFault) (r : Report) → slice_get xs k ≡ Some (Err e) → slice_get rs k ≡ Some r → r.outcome ≡ told_fault e
+  faults-told : (xs : List Line) (rs : List Report) (g : Graph) → outcomes rs ≡ all_told xs g → (k : ℕ) (e : TextFault) (r : Report) → slice_get xs k ≡ Some (Err e) → slice_get rs k ≡ Some r → told_in r ≡ told_fault e
   faults-told [] rs g same k e r is here = let z : ◌≡◌ {A = ℕ} 0 1 = cc in absurd (omega arith)
   faults-told (x ∷ xs) [] g same k e r is here = let z : ◌≡◌ {A = ℕ} 0 1 = cc in absurd (omega arith)
   faults-told (x ∷ xs) (y ∷ ys) g same zero e r is here =
       let a : x ≡ Err e = cc in
       let b : y ≡ r = cc in
-      let head : y.outcome ≡ what x g = cc in
-      ap (λ (z : Report). z.outcome) (sym b) ∙ head ∙ ap (λ (z : Line). what z g) a
+      let head : told_in y ≡ what x g = cc in
+      ap told_in (sym b) ∙ head ∙ ap (λ (z : Line). what z g) a
   faults-told (x ∷ xs) (y ∷ ys) g same (suc k) e r is here =
       let tail : outcomes ys ≡ all_told xs (next x g) = cc in
       faults-told xs ys (next x g) tail k e r is here
 
   -- what must be told leaves no choice
-  pinned : (xs : List Line) (rs : List Report) (g : Graph) → length rs ≡ length xs → ((k : ℕ) (e : TextFault) (r : Report) → slice_get xs k ≡ Some (Err e) → slice_get rs k ≡ Some r → r.outcome ≡ told_fault e) → told_where is_call xs rs ≡ map told_outcome (run m W (calls_in xs) g).0 → outcomes rs ≡ all_told xs g
+  pinned : (xs : List Line) (rs : List Report) (g : Graph) → length rs ≡ length xs → ((k : ℕ) (e : TextFault) (r : Report) → slice_get xs k ≡ Some (Err e) → slice_get rs k ≡ Some r → told_in r ≡ told_fault e) → told_where is_call xs rs ≡ map told_outcome (run m W (calls_in xs) g).0 → outcomes rs ≡ all_told xs g
   pinned [] [] g long faults calls = refl
   pinned [] (r ∷ rs) g long faults calls = absurd (omega arith)
   pinned (x ∷ xs) [] g long faults calls = absurd (omega arith)
   pinned (Ok c ∷ xs) (r ∷ rs) g long faults calls =
-      let head : r.outcome ≡ told_outcome (step m W c g).0 = cc in
+      let head : told_in r ≡ told_outcome (step m W c g).0 = cc in
       let tail : told_where is_call xs rs ≡ map told_outcome (run m W (calls_in xs) (step m W c g).1).0 = cc in
       let rest = pinned xs rs (step m W c g).1 (omega arith) (λ k e y. faults (suc k) e y) tail in
       cc
@@ -181,14 +180,14 @@ module _ (m : Meaning) (W : ℕ) where
     -- what is told where the input is not too long
     abbrev told_by : Result Columns TextFault → List Report
     told_by (Ok c) = runs (step m W) bare c 2 (behind (lines input))
-    told_by (Err e) = record { line = 1; outcome = told_fault e } ∷ []
+    told_by (Err e) = telling 1 (told_fault e) ∷ []
 
     by-columns : (r : Result Columns TextFault) → told (step m W) bare (on_line (of_text r) 1) (behind (lines input)) ≡ told_by r
     by-columns (Ok c) = refl
     by-columns (Err e) = refl
 
     -- whether the input is too long
-    by-length : (long : Bool) → ltb 65536 (length input) ≡ long → loaded m W input ≡ cond long (record { line = 0; outcome = told_fault TooLong } ∷ []) (told_by (columns_in name_line))
+    by-length : (long : Bool) → ltb 65536 (length input) ≡ long → loaded m W input ≡ cond long (telling 0 (told_fault TooLong) ∷ []) (told_by (columns_in name_line))
     by-length true e =
         ap (λ (b : Bool). told (step m W) bare (and_then (on_line (cond b (Err (Text TooLong)) (Ok tt)) 0) (λ _. on_line (of_text (columns_in name_line)) 1)) (behind (lines input))) e
     by-length false e =
@@ -225,23 +224,23 @@ module _ (m : Meaning) (W : ℕ) where
       pinned (said c input) reports bare (tells.one_each c read ∙ sym (length-map (behind (lines input)) (parsed c))) (tells.faults c read) (tells.calls c read)
 
   -- the report of line n + k
-  report-at : (rs : List Report) (os : List (Result ℤ Stop)) (n : ℕ) → outcomes rs ≡ os → ((k : ℕ) (r : Report) → slice_get rs k ≡ Some r → r.line ≡ n + k) → (k : ℕ) → slice_get rs k ≡ option_map (λ (o : Result ℤ Stop). record { line = n + k; outcome = o }) (slice_get os k)
+  report-at : (rs : List Report) (os : List Told) (n : ℕ) → outcomes rs ≡ os → ((k : ℕ) (r : Report) → slice_get rs k ≡ Some r → r.line ≡ n + k) → (k : ℕ) → slice_get rs k ≡ option_map (telling (n + k)) (slice_get os k)
   report-at [] [] n same numbered k = refl
   report-at [] (o ∷ os) n same numbered k = let z : ◌≡◌ {A = ℕ} 0 1 = cc in absurd (omega arith)
   report-at (r ∷ rs) [] n same numbered k = let z : ◌≡◌ {A = ℕ} 0 1 = cc in absurd (omega arith)
   report-at (r ∷ rs) (o ∷ os) n same numbered zero =
       let line = numbered 0 r refl in
-      let outcome : r.outcome ≡ o = cc in
-      let whole : r ≡ record { line = n + 0; outcome = o } = ap₂ (λ (l : ℕ) (x : Result ℤ Stop). record { line = l; outcome = x }) line outcome in
+      let outcome : told_in r ≡ o = cc in
+      let whole : r ≡ telling (n + 0) o = ap₂ telling line outcome in
       ap {B = Option Report} (λ (x : Report). Some x) whole
   report-at (r ∷ rs) (o ∷ os) n same numbered (suc k) =
       let rest : outcomes rs ≡ os = cc in
       let next-line = λ (j : ℕ) (x : Report) (e : slice_get rs j ≡ Some x). let is = numbered (suc j) x e in let l : x.line ≡ suc n + j = omega arith in l in
       let e : suc n + k ≡ n + suc k = omega arith in
       report-at rs os (suc n) rest next-line k
-      ∙ ap (λ (l : ℕ). option_map (λ (x : Result ℤ Stop). record { line = l; outcome = x }) (slice_get os k)) e
+      ∙ ap (λ (l : ℕ). option_map (λ (x : Told). telling l x) (slice_get os k)) e
 
-  read-at : (input : List ℕ) (reports : List Report) (c : Columns) → Tells m W input reports → IsRead c input → (k : ℕ) → slice_get reports k ≡ option_map (λ (o : Result ℤ Stop). record { line = 2 + k; outcome = o }) (slice_get (all_told (said c input) bare) k)
+  read-at : (input : List ℕ) (reports : List Report) (c : Columns) → Tells m W input reports → IsRead c input → (k : ℕ) → slice_get reports k ≡ option_map (telling (2 + k)) (slice_get (all_told (said c input) bare) k)
   read-at input reports c tells read = report-at reports (all_told (said c input) bare) 2 (pinned-load input reports c tells read) (tells.numbered c read)
 
   same-reports : (rs ss : List Report) → ((k : ℕ) → slice_get rs k ≡ slice_get ss k) → rs ≡ ss
@@ -277,10 +276,10 @@ module _ (m : Meaning) (W : ℕ) where
 
   replaced : (input : List ℕ) (reports : List Report) → Tells m W input reports → (other : List ℕ) (others : List Report) → Tells m W other others → AlikeButFor input reports other others
   replaced input reports tells other others tells' c d front rest e f read read' here there k apart =
-      let at = λ (xs : List Line). option_map (λ (o : Result ℤ Stop). record { line = 2 + k; outcome = o }) (slice_get (all_told xs bare) k) in
+      let at = λ (xs : List Line). option_map (telling (2 + k)) (slice_get (all_told xs bare) k) in
       read-at input reports c tells read k
       ∙ ap at here
-      ∙ ap (option_map (λ (o : Result ℤ Stop). record { line = 2 + k; outcome = o })) (but-for front rest e f bare k apart)
+      ∙ ap (option_map (telling (2 + k))) (but-for front rest e f bare k apart)
       ∙ ap at (sym there)
       ∙ sym (read-at other others d tells' read' k)
 

@@ -15,7 +15,6 @@ use Rattle.load.specs.Calls.{parsed}
 use Rattle.load.specs.Names.{Named}
 use Rattle.load.specs.declared.names.Columns.{Columns}
 use Rattle.report.specs.declared.reports.Report.{Report}
-use Rattle.report.specs.declared.reports.Stop.{Stop}
 use Rattle.report.specs.Loads.{first, behind}
 use Rattle.report.specs.Reports.{output}
 
@@ -42,35 +41,46 @@ calls_in [] = []
 calls_in (Ok c ∷ ls) = c ∷ calls_in ls
 calls_in (Err e ∷ ls) = calls_in ls
 
+-- what a report tells of its line: the outcome and the position
+abbrev pub Told : Type 0
+Told = Result ℤ ℤ × ℕ
+
+abbrev pub told_in : Report → Told
+told_in r = (r.outcome, r.at)
+
+-- the report that tells this of line n
+abbrev pub telling : ℕ → Told → Report
+telling n t = record { line = n; at = t.1; outcome = t.0 }
+
 -- what is told of the lines that pass a test
-abbrev pub told_where : (Result Call TextFault → Bool) → List (Result Call TextFault) → List Report → List (Result ℤ Stop)
+abbrev pub told_where : (Result Call TextFault → Bool) → List (Result Call TextFault) → List Report → List Told
 told_where test [] rs = []
 told_where test (l ∷ ls) [] = []
-told_where test (l ∷ ls) (r ∷ rs) = cond (test l) (r.outcome ∷ told_where test ls rs) (told_where test ls rs)
+told_where test (l ∷ ls) (r ∷ rs) = cond (test l) (told_in r ∷ told_where test ls rs) (told_where test ls rs)
 
--- how a fault of the text is told, and what a call gave
-abbrev pub told_fault : TextFault → Result ℤ Stop
-told_fault e = Err (record { number = pos (text_number e); at = text_position e })
+-- how a fault of the text is told, and what a call gave: an answer always at position 0
+abbrev pub told_fault : TextFault → Told
+told_fault e = (Err (pos (text_number e)), text_position e)
 
-abbrev pub told_outcome : Outcome → Result ℤ Stop
-told_outcome (Ok n) = Ok n
-told_outcome (Err r) = Err (record { number = pos (refusal_number r); at = refusal_position r })
+abbrev pub told_outcome : Outcome → Told
+told_outcome (Ok n) = (Ok n, 0)
+told_outcome (Err r) = (Err (pos (refusal_number r)), refusal_position r)
 
 -- What is told of an input by a load over a new heap of W words.
 pub record Tells (m : Meaning) (W : ℕ) (input : List ℕ) (reports : List Report) : Type 0 where
   -- fault 40 is all that is told of an input that is too long, at line 0
-  pub too_long : 65536 < length input → reports ≡ record { line = 0; outcome = told_fault TooLong } ∷ []
+  pub too_long : 65536 < length input → reports ≡ telling 0 (told_fault TooLong) ∷ []
   -- fault 41 is all that is told of any other input that has no name line in front, at line 1
   pub no_names :
       length input ≤ 65536 → ((names : Columns) → Named names (first (lines input)) → ⊥)
-      → reports ≡ record { line = 1; outcome = told_fault NoNames } ∷ []
+      → reports ≡ telling 1 (told_fault NoNames) ∷ []
   -- of any other there is one report for each call line, numbered from 2 without a gap
   pub one_each : (names : Columns) → IsRead names input → length reports ≡ length (behind (lines input))
   pub numbered : (names : Columns) → IsRead names input → (k : ℕ) (r : Report) → slice_get reports k ≡ Some r → r.line ≡ 2 + k
   -- that of a line with a fault is this fault
   pub faults :
       (names : Columns) → IsRead names input → (k : ℕ) (e : TextFault) (r : Report)
-      → slice_get (said names input) k ≡ Some (Err e) → slice_get reports k ≡ Some r → r.outcome ≡ told_fault e
+      → slice_get (said names input) k ≡ Some (Err e) → slice_get reports k ≡ Some r → told_in r ≡ told_fault e
   -- and the calls of the other lines, one after another, are answered as the still graph answers them
   pub calls :
       (names : Columns) → IsRead names input

@@ -11,28 +11,26 @@ use Rattle.report.specs.Faults.{fault_number, fault_position}
 abbrev pub stop_of : CallFault → Stop
 stop_of e = record { number = pos (fault_number e); at = fault_position e }
 
--- what is told of line n
+-- what is told of line n: of a call that was granted no value is to blame
 abbrev pub reported : ℕ → Result ℤ LineFault → Report
-reported n (Ok answer) = record { line = n; outcome = Ok answer }
-reported n (Err e) = record { line = e.line; outcome = Err (stop_of e.fault) }
+reported n (Ok answer) = record { line = n; at = 0; outcome = Ok answer }
+reported n (Err e) =
+    let stop = stop_of e.fault in
+    record { line = e.line; at = stop.at; outcome = Err stop.number }
 
--- how an outcome is told: whether the call was granted, the number, and which value is to blame, 0 for none
-abbrev pub state : Result ℤ Stop → List ℕ
+-- how an outcome is told: whether the call was granted, and the number
+abbrev pub state : Result ℤ ℤ → List ℕ
 state (Ok answer) = codes "ok"
-state (Err e) = codes "no"
+state (Err stop) = codes "no"
 
-abbrev pub number : Result ℤ Stop → ℤ
+abbrev pub number : Result ℤ ℤ → ℤ
 number (Ok answer) = answer
-number (Err e) = e.number
-
-abbrev pub position : Result ℤ Stop → ℕ
-position (Ok answer) = 0
-position (Err e) = e.at
+number (Err stop) = stop
 
 -- line, state, number and position, one space between
 abbrev pub shown_report : Report → List ℕ
 shown_report x =
-    decimal x.line ++ (codes " " ++ (state x.outcome ++ (codes " " ++ (signed_decimal (number x.outcome) ++ (codes " " ++ decimal (position x.outcome))))))
+    decimal x.line ++ (codes " " ++ (state x.outcome ++ (codes " " ++ (signed_decimal (number x.outcome) ++ (codes " " ++ decimal x.at)))))
 
 -- a line and byte 10 behind it, for each report
 abbrev pub written : List Report → List ℕ

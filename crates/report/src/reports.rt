@@ -7,10 +7,9 @@ use crate::line_faults::{CallFault, LineFault};
 use std::alloc::{AllocError, Global};
 use std::fmt;
 
-/// What stopped a line: the number of the fault, and which value is to blame, 0 for none.
+/// What is told of a fault: its number, and which value is to blame, 0 for none.
 #[derive(Clone, Copy, PartialEq, Eq, Debug)]
 pub struct Stop {
-    // Numbers as printed: any that a line can show is held, and read back.
     pub number: i64,
     pub at: u8,
 }
@@ -26,12 +25,18 @@ impl From<CallFault> for Stop {
     }
 }
 
-/// A line of the output: the number of the input's line, and the answer of its call or what stopped it.
+/// A line of the output: the number of the input's line, the answer of its call or the number of
+/// what stopped it, and which value is to blame, 0 for none.
 #[derive(Clone, Copy, PartialEq, Eq, Debug)]
 pub struct Report {
     pub line: u32,
-    pub outcome: Result<i64, Stop>,
+    // In front of the outcome, so that a report, kept for each line of a load, takes 24 bytes.
+    pub at: u8,
+    // Numbers as printed, with any position: whatever a line can show is held, and read back.
+    pub outcome: Result<i64, i64>,
 }
+
+const _: () = prove!(size_of::<Report>() == 24);
 
 /// What the line of that number gave.
 pub fn report_of(line: u32, res: Result<i64, LineFault>) -> Report
@@ -40,12 +45,17 @@ pub fn report_of(line: u32, res: Result<i64, LineFault>) -> Report
     match res {
         Ok(answer) => Report {
             line,
+            at: 0,
             outcome: Ok(answer),
         },
-        Err(LineFault { line, fault }) => Report {
-            line,
-            outcome: Err(Stop::from(fault)),
-        },
+        Err(LineFault { line, fault }) => {
+            let Stop { number, at } = Stop::from(fault);
+            Report {
+                line,
+                at,
+                outcome: Err(number),
+            }
+        }
     }
 }
 
@@ -54,10 +64,11 @@ impl fmt::Display for Report {
 
     fn fmt<W: fmt::Write>(&self, f: &mut fmt::Formatter<W>) -> fmt::Result {
         let line = self.line;
-        let (state, number, at) = match self.outcome {
-            Ok(answer) => ("ok", answer, 0),
-            Err(Stop { number, at }) => ("no", number, at),
+        let (state, number) = match self.outcome {
+            Ok(answer) => ("ok", answer),
+            Err(number) => ("no", number),
         };
+        let at = self.at;
         write!(f, "{line} {state} {number} {at}")
     }
 }
