@@ -17,7 +17,9 @@ use std::io::{self, Read, Write};
 pub fn read_load<R: Read + Drop>(reader: R, alloc: Global) -> io::Result<Vec<u8>>
     ensures { IfOk result (λ v. IfSome (R.remaining reader) (λ xs. v.items ≡ take 65537 xs)) }
 {
-    let mut input = Vec::new(alloc);
+    // Room that, doubled six times, holds the longest and the read that meets its end: from a
+    // power of two it would be doubled once more for that read alone.
+    let mut input = Vec::with_capacity(alloc, LONGEST_INPUT / 64 + 1)?;
     reader
         .take(LONGEST_INPUT as u64 + 1)
         .read_to_end(&mut input)?;
