@@ -3,7 +3,7 @@ use Rattle.heap.specs.Effects.{View}
 use Rattle.heap.specs.Phases.{GivesUp}
 use Rattle.heap.specs.Views.{view}
 use Rattle.service.proofs.Shown.{looked_in}
-use Rattle.view.proofs.album.AlbumOnlooker.look.Goals as goal
+use Rattle.view.proofs.printer.PrinterOnlooker.look.Goals as goal
 
 pub returns-clause-kept : goal.returns-clause-kept
 returns-clause-kept g c =
