@@ -1,12 +1,12 @@
 // What a caller from outside may do to a heap that it keeps, over any memory and scheme.
-ghost use Rattle.std.specs.Prelude.{◌≡◌, ◌≢◌, ◌↔◌, IsOk, MatchResult};
-ghost use Rattle.heap.specs.Asides.{Resumes, Suspends, at_rest, begun};
+ghost use Rattle.std.specs.Prelude.{◌≡◌, ◌↔◌, IsOk};
+ghost use Rattle.heap.specs.Asides.{Suspends, at_rest, begun};
 ghost use Rattle.clib.specs.Turns.{Opened, Collected, Listed, BegunBy, DrawnBy, ClosedBy, GivenUpBy, IsDrawn};
 ghost use Rattle.clib.specs.Kept.{Does, effect_of};
 
 use crate::forms::{Answer, CallWords};
 use crate::lists::give_list;
-use heap::{Aside, Begun, Drawn, Heap, Phase, WORDS};
+use heap::{Aside, Heap, Phase, WORDS};
 use memory::Memory;
 use scheme::Scheme;
 
@@ -58,64 +58,24 @@ impl<M: Memory, S: Scheme> Kept<M, S> {
         (Kept::from(Phase::Resting(heap)), words as i64)
     }
 
-    /// The heap in its phase.
-    fn resume(self) -> Phase<M, S>
-        ensures { Resumes self.memory self.scheme self.aside result }
-    {
-        Phase::resume(self.memory, self.scheme, &self.aside)
-    }
-
-    // One each for the three phases, as each holds a type of its own: a closure that picks the phase, or gives the heap back, would be this `match` again.
-    /// The heap, if it rests.
-    fn resting(self) -> Result<Heap<M, S>, OutOfTurn<M, S>>
-        ensures { MatchResult result (λ heap. Resumes self.memory self.scheme self.aside (Phase.Resting heap)) (λ out. (self.aside.phase ≢ at_rest) × (out.0 ≡ self)) }
-    {
-        let aside = self.aside;
-        match self.resume() {
-            Phase::Resting(heap) => Ok(heap),
-            other => Err(OutOfTurn(Kept {
-                aside,
-                ..Kept::from(other)
-            })),
-        }
-    }
-
-    /// The heap, if its collection is begun.
-    fn begun(self) -> Result<Begun<M, S>, OutOfTurn<M, S>>
-        ensures { MatchResult result (λ begun. Resumes self.memory self.scheme self.aside (Phase.Begun begun)) (λ out. (self.aside.phase ≢ begun) × (out.0 ≡ self)) }
-    {
-        let aside = self.aside;
-        match self.resume() {
-            Phase::Begun(begun) => Ok(begun),
-            other => Err(OutOfTurn(Kept {
-                aside,
-                ..Kept::from(other)
-            })),
-        }
-    }
-
-    /// The heap, if it is drawn.
-    fn drawn(self) -> Result<Drawn<M, S>, OutOfTurn<M, S>>
-        ensures { MatchResult result (λ drawn. Resumes self.memory self.scheme self.aside (Phase.Drawn drawn)) (λ out. (IsDrawn self.aside → ⊥) × (out.0 ≡ self)) }
-    {
-        let aside = self.aside;
-        match self.resume() {
-            Phase::Drawn(drawn) => Ok(drawn),
-            other => Err(OutOfTurn(Kept {
-                aside,
-                ..Kept::from(other)
-            })),
-        }
-    }
-
+    // Each turn matches the phase itself. With functions that give the heap of a phase or the
+    // refusal, and a `?` here, it took twice as long: a result that may hold either lays the one
+    // over the other, and the handles are then copied word by word.
     /// A whole collection of a resting heap. Answers the live words.
     pub fn collect(self) -> Turned<M, S>
         ensures in_turn { IsOk result ↔ (self.aside.phase ≡ at_rest) }
         ensures does { Does Collected M.Memory.words S.Scheme.meaning self result }
     {
-        let mut heap = self.resting()?;
-        let live = heap.collect();
-        Ok((Kept::from(Phase::Resting(heap)), i64::from(live)))
+        match Phase::resume(self.memory, self.scheme, &self.aside) {
+            Phase::Resting(mut heap) => {
+                let live = heap.collect();
+                Ok((Kept::from(Phase::Resting(heap)), i64::from(live)))
+            }
+            other => Err(OutOfTurn(Kept {
+                aside: self.aside,
+                ..Kept::from(other)
+            })),
+        }
     }
 
     /// Gives calls to a resting heap, one after another. Answers how many it gave.
@@ -123,9 +83,16 @@ impl<M: Memory, S: Scheme> Kept<M, S> {
         ensures in_turn { IsOk result ↔ (self.aside.phase ≡ at_rest) }
         ensures does { Does (λ m ws a vs b n. Listed m calls.now answers.old answers.new ws a vs b n) M.Memory.words S.Scheme.meaning self result }
     {
-        let mut heap = self.resting()?;
-        let given = give_list(&mut heap, calls, answers);
-        Ok((Kept::from(Phase::Resting(heap)), given as i64))
+        match Phase::resume(self.memory, self.scheme, &self.aside) {
+            Phase::Resting(mut heap) => {
+                let given = give_list(&mut heap, calls, answers);
+                Ok((Kept::from(Phase::Resting(heap)), given as i64))
+            }
+            other => Err(OutOfTurn(Kept {
+                aside: self.aside,
+                ..Kept::from(other)
+            })),
+        }
     }
 
     /// Begins a collection of a resting heap. Answers the live words.
@@ -133,9 +100,17 @@ impl<M: Memory, S: Scheme> Kept<M, S> {
         ensures in_turn { IsOk result ↔ (self.aside.phase ≡ at_rest) }
         ensures does { Does BegunBy M.Memory.words S.Scheme.meaning self result }
     {
-        let begun = self.resting()?.begin();
-        let live = begun.live_words();
-        Ok((Kept::from(Phase::Begun(begun)), i64::from(live)))
+        match Phase::resume(self.memory, self.scheme, &self.aside) {
+            Phase::Resting(heap) => {
+                let begun = heap.begin();
+                let live = begun.live_words();
+                Ok((Kept::from(Phase::Begun(begun)), i64::from(live)))
+            }
+            other => Err(OutOfTurn(Kept {
+                aside: self.aside,
+                ..Kept::from(other)
+            })),
+        }
     }
 
     /// Draws a begun heap. Answers 0.
@@ -143,8 +118,13 @@ impl<M: Memory, S: Scheme> Kept<M, S> {
         ensures in_turn { IsOk result ↔ (self.aside.phase ≡ begun) }
         ensures does { Does DrawnBy M.Memory.words S.Scheme.meaning self result }
     {
-        let drawn = self.begun()?.draw();
-        Ok((Kept::from(Phase::Drawn(drawn)), 0))
+        match Phase::resume(self.memory, self.scheme, &self.aside) {
+            Phase::Begun(begun) => Ok((Kept::from(Phase::Drawn(begun.draw())), 0)),
+            other => Err(OutOfTurn(Kept {
+                aside: self.aside,
+                ..Kept::from(other)
+            })),
+        }
     }
 
     /// Closes a drawn heap. Answers the live words.
@@ -152,8 +132,16 @@ impl<M: Memory, S: Scheme> Kept<M, S> {
         ensures in_turn { IsOk result ↔ IsDrawn self.aside }
         ensures does { Does ClosedBy M.Memory.words S.Scheme.meaning self result }
     {
-        let (heap, live) = self.drawn()?.close();
-        Ok((Kept::from(Phase::Resting(heap)), i64::from(live)))
+        match Phase::resume(self.memory, self.scheme, &self.aside) {
+            Phase::Drawn(drawn) => {
+                let (heap, live) = drawn.close();
+                Ok((Kept::from(Phase::Resting(heap)), i64::from(live)))
+            }
+            other => Err(OutOfTurn(Kept {
+                aside: self.aside,
+                ..Kept::from(other)
+            })),
+        }
     }
 
     /// Gives up the collection of a begun heap. Answers 0.
@@ -161,8 +149,13 @@ impl<M: Memory, S: Scheme> Kept<M, S> {
         ensures in_turn { IsOk result ↔ (self.aside.phase ≡ begun) }
         ensures does { Does GivenUpBy M.Memory.words S.Scheme.meaning self result }
     {
-        let heap = self.begun()?.give_up();
-        Ok((Kept::from(Phase::Resting(heap)), 0))
+        match Phase::resume(self.memory, self.scheme, &self.aside) {
+            Phase::Begun(begun) => Ok((Kept::from(Phase::Resting(begun.give_up())), 0)),
+            other => Err(OutOfTurn(Kept {
+                aside: self.aside,
+                ..Kept::from(other)
+            })),
+        }
     }
 
     /// Takes the step.
