@@ -322,10 +322,12 @@ mod tests {
         let record = slots_at(&space, 0);
         let layout = slots_at(&space, 34);
         let map = slots_at(&space, 38);
+        let rule = space.rule_of(0);
         let Space {
             memory: _,
             handles: _,
         } = space;
+        assert_eq!(rt; rule, 30);
         assert_eq!(rt; three(record), ([Some(1), Some(32), Some(33)], true));
         assert_eq!(rt;
             three(record.below(34)),
